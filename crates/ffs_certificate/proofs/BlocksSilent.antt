@@ -11,6 +11,7 @@ use Rattle.ffs_volume.specs.Blocks.{Claims.{reserved_map, no_claims}, Owners.{Ow
 use Rattle.ffs_volume.specs.{Blocks.KeptOffers.Offer, Consistent.BlocksRight.{times, is_step_in_range, BlocksRight}}
 use Rattle.ffs_volume.specs.Disk.Areas.{is_fragment_in_range, is_reserved}
 use Rattle.ffs_certificate.proofs.BlockLaws.{mark, fresh, is_nil, nil_append, run_ok, owners_say, owners_claim, Quiet}
+use Rattle.ffs_volume.proofs.Flags.{unset}
 use Rattle.ffs_certificate.proofs.BlockLaws.{owners_parts, owners_from}
 
 abbrev pub bit : Bool → ℕ
@@ -97,10 +98,6 @@ reserved_length v = length-map-range_with_len (is_reserved v) 0 v.size
 pub reserved_bit : (v : Layout) (f : ℕ) → is_set (reserved_map v) f ≡ (nat_lt f v.size && is_reserved v f)
 unfolding reserved_map
 reserved_bit v f = grind (arith, get_or-map-range_with_len, get_or_past, length-map-range_with_len)
-
--- no bit of a list of unset bits is set
-pub unset : (n f : ℕ) → is_set (replicate n false) f ≡ false
-unset n f = grind (arith, get_or-replicate, get_or_past, length-replicate)
 
 -- where no fragment is marked, no offer is reported
 none_first : (dup : List Bool) (os : List Offer) → ((f : ℕ) → is_set dup f ≡ false) → first_offer_lines dup os ≡ []

@@ -1,6 +1,6 @@
 -- How often a check reads any image, from the phases to the whole.
 use Rattle.std.proofs.Common.{◌≡◌, ◌≤◌, ◌+◌, ◌*◌, ◌∙◌, ℕ, Bool, false, inl, inr, refl, sym, ap, arith, List, [], ◌∷◌, ◌++◌}
-use Rattle.std.proofs.{Common.{append_assoc, length-append, Ok, Err, subst, Result}, Math.Nat.mul-le-mul_left}
+use Rattle.std.proofs.{Common.{append-nil, append_assoc, length, length-append, Ok, Err, subst, Result}, Math.Nat.mul-le-mul_left}
 use Rattle.ffs_image.specs.Device.{Device}
 use Rattle.ffs_volume.specs.{declared.{Layout.Layout, End.End}, Messages.{Kinds.{Message, cannot_alloc, cannot_read}}}
 use Rattle.ffs_volume.specs.{Messages.Texts.texts_of, Report.Reads.{line_reads, opening_reads, phase_reads, reads_limit}}
@@ -22,10 +22,12 @@ pub ended_reads : (v : Layout) (had_defect : Bool) (old new : ReportMoment) (b :
     Paid (line_reads + 1) old.report b (old.reads + phase_reads v 0) new.reads r → EndsAs had_defect b new.report r end →
     ReadsByMessages (phase_reads v) (at_output old) (at_output new)
 ended_reads v had_defect old new b (Ok root) end working p e = record {
-  messages = p.messages;
-  went_out = inl (subst (λ (to : Progress). Took old.report.sink to.sink (texts_of p.messages))
-      (sym (e.0 ∙ p.begun.1)) p.said.took);
-  most = priced v _ _ old.reads new.reads p.most (rw p.begun.0 (omega arith));
+  said = p.messages;
+  last = [];
+  few = omega arith;
+  went_out = inl (rw (append-nil p.messages) (subst (λ (to : Progress). Took old.report.sink to.sink (texts_of p.messages))
+      (sym (e.0 ∙ p.begun.1)) p.said.took));
+  most = priced v _ _ old.reads new.reads p.most (rw (append-nil p.messages) (rw p.begun.0 (omega arith)));
 }
 ended_reads v had_defect old new b (Err (Read fault)) end working p e =
     let a = old.report in
@@ -33,14 +35,12 @@ ended_reads v had_defect old new b (Err (Read fault)) end working p e =
     let said : Said a b p.messages = subst (λ to. Said a to p.messages) (sym p.begun) p.said in
     let long = length-append p.messages (line ∷ []) in
     record {
-      messages = p.messages ++ (line ∷ []);
+      said = p.messages;
+      last = line ∷ [];
+      few = omega arith;
       went_out = elim e [
         | inl whole ↦ inl (said_then a b new.report p.messages (line ∷ []) said whole.0).took
         | inr stopped ↦ inr (record {
-          said = p.messages;
-          last = line ∷ [];
-          are_all = refl;
-          few = omega arith;
           between = b.sink;
           went_out = said.took;
           broke_off = broke_off b new.report (line ∷ []) (said.failed ∙ working) stopped.0;
@@ -51,12 +51,10 @@ ended_reads v had_defect old new b (Err (Read fault)) end working p e =
 ended_reads v had_defect old new b (Err (Out fault)) end working p e =
     let long = length-append p.messages p.last in
     record {
-      messages = p.messages ++ p.last;
+      said = p.messages;
+      last = p.last;
+      few = p.few;
       went_out = inr (record {
-        said = p.messages;
-        last = p.last;
-        are_all = refl;
-        few = p.few;
         between = p.between.sink;
         went_out = p.said.took;
         broke_off = broke_off p.between new.report p.last (p.said.failed ∙ working)
@@ -70,14 +68,12 @@ pub unstarted_reads : (v : Layout) (image : Device) (reads : ℕ) (a b : Progres
     SaysNoMemory a b end → ReadsByMessages (phase_reads v) (record { image = image; reads = reads; out = a.sink })
     (record { image = image; reads = reads; out = b.sink })
 unstarted_reads v image reads a b end working e = record {
-  messages = cannot_alloc ∷ [];
+  said = [];
+  last = cannot_alloc ∷ [];
+  few = omega arith;
   went_out = elim e [
     | inl said ↦ inl said.0.took
     | inr stopped ↦ inr (record {
-      said = [];
-      last = cannot_alloc ∷ [];
-      are_all = refl;
-      few = omega arith;
       between = a.sink;
       went_out = took_nil a.sink;
       broke_off = broke_off a b (cannot_alloc ∷ []) working stopped.0;
@@ -90,18 +86,17 @@ unstarted_reads v image reads a b end working e = record {
 pub opened_reads : (v : Layout) (a b c : Moment) (lines : List Message) → Took a.out b.out (texts_of lines) →
     b.reads ≤ a.reads + opening_reads → ReadsByMessages (phase_reads v) b c → ReadsByMessages (reads_limit v) a c
 opened_reads v a b c lines went opened p =
-    let long = length-append lines p.messages in
+    let all = append_assoc lines p.said p.last in
+    let long = ap length all ∙ length-append lines (p.said ++ p.last) in
     record {
-      messages = lines ++ p.messages;
+      said = lines ++ p.said;
+      last = p.last;
+      few = p.few;
       went_out = elim p.went_out [
-        | inl whole ↦ inl (took_messages a.out b.out c.out lines p.messages went whole)
+        | inl whole ↦ inl (rw all (took_messages a.out b.out c.out lines (p.said ++ p.last) went whole))
         | inr part ↦ inr (record {
-          said = lines ++ part.said;
-          last = part.last;
-          are_all = ap (λ ms. lines ++ ms) part.are_all ∙ sym (append_assoc lines part.said part.last);
-          few = part.few;
           between = part.between;
-          went_out = took_messages a.out b.out part.between lines part.said went part.went_out;
+          went_out = took_messages a.out b.out part.between lines p.said went part.went_out;
           broke_off = part.broke_off;
         })
       ];

@@ -4,7 +4,7 @@ use Rattle.std.proofs.lemmas.List.Concat.{flat_map-append}
 use Rattle.ffs_volume.specs.{declared.End.{End, TheVariants.WriteFault}, Messages.{Kinds.Message, Texts.{text_of, texts_of}}}
 use Rattle.ffs_report.{specs.{Sink.{BrokeOff, Sink, Took}, Progress.{Progress, Stopped}}, proofs.Sinks.broke_off_after}
 use Rattle.ffs_report.proofs.Sinks.{broke_off_more, took_then}
-use Rattle.ffs_check.specs.{Ends.{BrokeOffInLine, Cut, Ends}, Moment.Moment, PhaseEnds.LineEnds}
+use Rattle.ffs_check.specs.{Ends.{BrokeOffAfter, Cut, Ends}, Moment.Moment, PhaseEnds.LineEnds}
 
 -- ---- messages that went out, and then others
 pub took_messages : (a b c : Sink) (xs ys : List Message) → Took a b (texts_of xs) → Took b c (texts_of ys) →
@@ -31,7 +31,7 @@ broke_off a b messages working s = grind arith
 pub line_after : (a : Sink) (b c : Progress) (said : List Message) (line : Message) (cut_end end : End) →
     Took a b.sink (texts_of said) → b.failed ≡ false → LineEnds b c line cut_end end →
     (Took a c.sink (texts_of (said ++ (line ∷ []))) × (end ≡ cut_end))
-    ⊎ (BrokeOffInLine a c.sink said line × (end ≡ WriteFault))
+    ⊎ (BrokeOffAfter a c.sink said (line ∷ []) × (end ≡ WriteFault))
 line_after a b c said line cut_end end went working ends = elim ends [
   | inl whole ↦ inl (took_messages a b.sink c.sink said (line ∷ []) went whole.0.took, whole.1)
   | inr part ↦ inr (

@@ -10,7 +10,8 @@ use Rattle.ffs_volume.specs.Report.Whole.{end_by, report_of, report_end, EndAgre
 use Rattle.ffs_report.specs.{Sink.Took, Known.IsContents, Progress.Progress}
 use Rattle.ffs_layout.specs.{declared.superblock.Super.Super, Super.{ReadsSuper, superblock_in}}
 use Rattle.ffs_check.specs.{Ends.Cut, Headline.{Headline, IsCutShort, IsEndOfReport}, Moment.{Moment, ReportMoment}}
-use Rattle.ffs_check.{specs.Headings.{TookSections, headings_before}, proofs.Sections.{HeadingsOfCheck, HeadingsWentOut}}
+use Rattle.ffs_volume.specs.Report.Headings.{headings_before}
+use Rattle.ffs_check.{specs.Headings.{TookSections}, proofs.Sections.{HeadingsOfCheck, HeadingsWentOut}}
 use Rattle.ffs_check.specs.{Moment.at_output, Opening.OpeningOf, PhaseEnds.{IsCutByRead, IsEndByRoot, LastStops}}
 use Rattle.ffs_check.{specs.PhaseEnds.{SaysNoMemory, SaysRest}, proofs.Openings.{found_of, no_defect_head, unfailed_of}}
 use Rattle.ffs_check.proofs.{Endings.{at_contents, at_known}, EndLaws.{cut_after, ends_after, line_after, took_messages}}

@@ -13,7 +13,7 @@ use Rattle.ffs_volume.specs.Messages.{Texts.texts_of, Kinds.{stops_at_last, stop
 use Rattle.ffs_report.specs.Sink.{BrokeOff, Took}
 use Rattle.ffs_layout.specs.Super.{ReadsSuper}
 use Rattle.ffs_certificate.proofs.ReportLaws.{certified}
-use Rattle.ffs_check.{specs.{Ends.BrokeOffInLine, Headline.{Certifies, Headline}}, proofs.Sections.HeadingsOfCheck}
+use Rattle.ffs_check.{specs.{Ends.BrokeOffAfter, Headline.{Certifies, Headline}}, proofs.Sections.HeadingsOfCheck}
 use Rattle.ffs_check.{specs.{Moment.Moment, PhaseEnds.can_end_report, Opening.OpeningOf}, proofs.EndLaws.broke_after}
 use Rattle.ffs_check.proofs.{EndLaws.broke_more, Endings.{at_contents, at_known}, Openings.no_defect_head}
 
@@ -111,7 +111,7 @@ module _ (name : List ℕ) (sector : Option ℕ) (old new : Moment) where
       Faulted old.image new.image new.image.failed_sector →
       ForContents old.image.contents (λ bytes. IsSuperSector bytes sector new.image.failed_sector) →
       (Took old.out new.out (texts_of (head_lines name sector ++ (fault_line fault ∷ []))) × (end ≡ Refused fault))
-      ⊎ (BrokeOffInLine old.out new.out (head_lines name sector) (fault_line fault) × (end ≡ WriteFault)) →
+      ⊎ (BrokeOffAfter old.out new.out (head_lines name sector) (fault_line fault ∷ []) × (end ≡ WriteFault)) →
       Headline name sector old new end
   failed fault end e f at ends = record {
     text = whole_report old.image name sector;
@@ -181,7 +181,7 @@ module _ (name : List ℕ) (sector : Option ℕ) (old new : Moment) where
 
   -- the output failed in the line of a fault
   stopped_in_line : (fault : SuperFault) → ReadsSuper old.image new.image sector (Err fault) →
-      BrokeOffInLine old.out new.out (head_lines name sector) (fault_line fault) →
+      BrokeOffAfter old.out new.out (head_lines name sector) (fault_line fault ∷ []) →
       Headline name sector old new WriteFault
   stopped_in_line fault (inl read) stop = failed fault WriteFault read.0.0 read.0.1 read.1 (inr (stop, refl))
   stopped_in_line fault (inr read) stop = stopped (Err fault) read.0 read.1

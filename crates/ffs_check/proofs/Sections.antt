@@ -9,7 +9,8 @@ use Rattle.ffs_report.specs.{PhaseOutcome.{HeadingFirst, ImageAfter, PhaseReport
 use Rattle.ffs_report.specs.declared.fault.RunFault.{RunFault, TheVariants.{Read, Out}}
 use Rattle.ffs_report.proofs.Reports.{said_none, said_then, stopped_after}
 use Rattle.ffs_pathnames.specs.declared.pass2.Root.{Root, TheVariants.{Go, Stop}}
-use Rattle.ffs_check.specs.Headings.{HasSections, TookSections, all_headings, headings_before}
+use Rattle.ffs_volume.specs.Report.Headings.{HasSections, all_headings, headings_before}
+use Rattle.ffs_check.specs.Headings.{TookSections}
 use Rattle.ffs_check.{specs.PhaseEnds.{EndsAs, SaysSections}, proofs.EndLaws.took_messages}
 
 -- ---- a text and its sections

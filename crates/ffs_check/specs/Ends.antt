@@ -18,11 +18,11 @@ pub record Cut : Type 0 where
   pub line : Message
   pub end : End
 
--- these messages went out whole, and the output failed within the line after them
-pub record BrokeOffInLine (old new : Sink) (said : List Message) (line : Message) : Type 0 where
+-- these messages went out whole, and the output failed within those after them
+pub record BrokeOffAfter (old new : Sink) (said last : List Message) : Type 0 where
   pub between : Sink
   pub went_out : Took old between (texts_of said)
-  pub broke_off : BrokeOff between new (texts_of (line ∷ []))
+  pub broke_off : BrokeOff between new (texts_of last)
 
 -- a failed read or refused memory cut the text short: the messages before it and the line that says
 -- so went out, and the end is its own; or the output failed within that line
@@ -30,7 +30,7 @@ pub record CutShort (old new : Sink) (IsCut : Cut → Type 0) (end : End) : Type
   pub cut : Cut
   pub is_cut : IsCut cut
   pub ends : (Took old new (texts_of (cut.said ++ (cut.line ∷ []))) × (end ≡ cut.end))
-      ⊎ (BrokeOffInLine old new cut.said cut.line × (end ≡ WriteFault))
+      ⊎ (BrokeOffAfter old new cut.said (cut.line ∷ []) × (end ≡ WriteFault))
 
 -- a check ended in one of these ways
 abbrev pub Ends : Moment → Moment → List Message → (End → Type 0) → (Cut → Type 0) → End → Type 0

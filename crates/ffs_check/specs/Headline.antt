@@ -5,8 +5,8 @@ use Rattle.ffs_volume.specs.declared.{SuperFault.TheVariants.CannotRead, End.{En
 use Rattle.ffs_volume.specs.{declared.End.TheVariants.{ReadFault, NoMemory}, Disk.Outcome.{IsSuperSector, outcome}}
 use Rattle.ffs_volume.specs.{Disk.Superblock.Superblock, Consistent.Volume.IsConsistent, Messages.Kinds.Message}
 use Rattle.ffs_volume.specs.{Messages.Kinds.{cannot_read, cannot_alloc, has_defect}, Report.Opening.head_lines}
-use Rattle.ffs_volume.specs.Report.{Opening.opening_lines, Whole.{report_of, report_end, EndAgrees}}
-use Rattle.ffs_check.specs.{Ends.{Cut, Ends}, Headings.{TookSections, headings_before}, Moment.Moment}
+use Rattle.ffs_volume.specs.Report.{Headings.headings_before, Opening.opening_lines, Whole.{report_of, report_end, EndAgrees}}
+use Rattle.ffs_check.specs.{Ends.{Cut, Ends}, Headings.TookSections, Moment.Moment}
 
 -- status 0, and a report with no defect, are each a certificate that the volume is consistent
 pub record Certifies (bytes : List ℕ) (s : Superblock) (text : List Message) (end : End) : Type 0 where

@@ -7,7 +7,7 @@ use Rattle.ffs_volume.specs.{Disk.{Superblock.Superblock, Outcome.outcome}, Mess
 use Rattle.ffs_volume.specs.{Messages.Texts.texts_of, Report.Opening.{fault_line, head_lines, opening_lines}}
 use Rattle.ffs_report.specs.{Progress.Progress, Sink.{BrokeOff, Took}}
 use Rattle.ffs_layout.specs.{declared.superblock.Super.Super, Super.{IsUnreadable, ReadsSuper, superblock_in}}
-use Rattle.ffs_check.specs.{Ends.BrokeOffInLine, Moment.Moment}
+use Rattle.ffs_check.specs.{Ends.BrokeOffAfter, Moment.Moment}
 
 -- the superblock isn't accepted, and its opening went out, with the fault
 pub record OpeningRefused (name : List ℕ) (asked_sector : Option ℕ) (old new : Moment)
@@ -30,7 +30,7 @@ pub record OpeningBrokeInLine (name : List ℕ) (asked_sector : Option ℕ) (old
     (found : Result Superblock SuperFault) (end : End) : Type 0 where
   pub fault : SuperFault
   pub found_is : found ≡ Err fault
-  pub in_line : BrokeOffInLine old.out new.out (head_lines name asked_sector) (fault_line fault)
+  pub in_line : BrokeOffAfter old.out new.out (head_lines name asked_sector) (fault_line fault ∷ [])
   pub end_is : end ≡ WriteFault
 
 -- how an opening ended: with an accepted superblock, or in one of these ways

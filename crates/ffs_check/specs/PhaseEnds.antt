@@ -17,7 +17,8 @@ use Rattle.ffs_report.specs.declared.fault.RunFault.TheVariants.{Out}
 use Rattle.ffs_pathnames.specs.{declared.pass2.Root.{Root, TheVariants.{Go, Stop}}, RootAnswers.is_go}
 use Rattle.ffs_memory.specs.Account.{Account}
 use Rattle.ffs_workspace.specs.{declared.workspace.Workspace.Workspace, Found.WithFresh, Lengths.IsFor, Ready.IsReady}
-use Rattle.ffs_check.specs.{Ends.{Cut, Ends}, Headings.{HasSections, TookSections, all_headings, headings_before}, Reads.PhasesRead}
+use Rattle.ffs_check.specs.{Ends.{Cut, Ends}, Headings.TookSections, Reads.PhasesRead}
+use Rattle.ffs_volume.specs.Report.Headings.{HasSections, all_headings, headings_before}
 use Rattle.ffs_check.specs.Phases.{AnswersDups, HasAnswers}
 use Rattle.ffs_check.specs.{Moment.{Moment, ReportMoment, at_output}, Taken.TakesBytes}
 

@@ -1,13 +1,13 @@
 -- How often a check reads its image at most: one that gives its bytes, and any image, also one that gives
 -- other bytes each time, by the messages that went out, whole or in part.
-use Rattle.std.specs.Prelude.{◌≡◌, ◌⊎◌, ◌≤◌, ◌+◌, ◌++◌, ℕ, List, length, Option, Result, Ok, Err}
+use Rattle.std.specs.Prelude.{◌⊎◌, ◌≤◌, ◌+◌, ◌++◌, ℕ, List, length, Option, Result, Ok, Err}
 use Rattle.ffs_image.specs.Device.{Device, ForContents}
 use Rattle.ffs_volume.specs.{declared.SuperFault.SuperFault, Disk.{Outcome.outcome, Superblock.Superblock}}
 use Rattle.ffs_volume.specs.{Messages.{Kinds.Message, Texts.texts_of}, Report.VolumeReads.volume_phase_reads}
 use Rattle.ffs_volume.specs.Report.{Reads.{line_reads, opening_reads, phase_reads, reads_limit}, Whole.phase_lines}
 use Rattle.ffs_volume.specs.Report.Whole.{report_of}
-use Rattle.ffs_report.specs.{Known.ForBytes, Paid.Paid, Sink.{BrokeOff, Sink, Took}, declared.fault.RunFault.RunFault}
-use Rattle.ffs_check.specs.Moment.{Moment, ReportMoment}
+use Rattle.ffs_report.specs.{Known.ForBytes, Paid.Paid, Sink.Took, declared.fault.RunFault.RunFault}
+use Rattle.ffs_check.specs.{Ends.BrokeOffAfter, Moment.{Moment, ReportMoment}}
 
 -- the phases read the image at most as often as the layout allows, and as what the volume holds does
 pub record PhasesReadWithin (s : Superblock) (bytes : List ℕ) (reads reads' : ℕ) : Type 0 where
@@ -24,23 +24,15 @@ pub record ReadsWithin (name : List ℕ) (asked_sector : Option ℕ) (old new : 
   pub volume : ForContents old.image.contents (λ bytes. (s : Superblock) → outcome bytes asked_sector ≡ Ok s
       → new.reads ≤ old.reads + (opening_reads + volume_phase_reads s.layout bytes))
 
--- of these messages all but the last, if there is one, went out whole, and the output failed within that
-pub record BrokeOffInLast (old new : Sink) (messages : List Message) : Type 0 where
-  pub said : List Message
-  pub last : List Message
-  pub are_all : messages ≡ said ++ last
-  pub few : length last ≤ 1
-  pub between : Sink
-  pub went_out : Took old between (texts_of said)
-  pub broke_off : BrokeOff between new (texts_of last)
-
 -- messages went out, or the output failed within the last of them, and there were no more reads than the
 -- limit for so many messages. It says nothing of an image that counts no reads, as a file (its `reads` is 0), nor
 -- with an output that doesn't give its bytes, as standard output: there the messages are any
 pub record ReadsByMessages (limit : ℕ → ℕ) (old new : Moment) : Type 0 where
-  pub messages : List Message
-  pub went_out : Took old.out new.out (texts_of messages) ⊎ BrokeOffInLast old.out new.out messages
-  pub most : new.reads ≤ old.reads + limit (length messages)
+  pub said : List Message
+  pub last : List Message
+  pub few : length last ≤ 1
+  pub went_out : Took old.out new.out (texts_of (said ++ last)) ⊎ BrokeOffAfter old.out new.out said last
+  pub most : new.reads ≤ old.reads + limit (length (said ++ last))
 
 -- how often the phases read an image whose bytes are known, and any image, for the messages that
 -- went out

@@ -10,6 +10,7 @@ use Rattle.ffs_volume.specs.Blocks.Claims.{after_step, after_steps, all_claims, 
 use Rattle.ffs_volume.specs.Blocks.KeptOffers.{Offer, kept_in_offers, kept_in_owners, kept_in_run, kept_in_step}
 use Rattle.ffs_volume.specs.Blocks.KeptOffers.{kept_in_steps, offer_of}
 use Rattle.ffs_volume.specs.{declared.{Layout.Layout, Step.{Step, TheVariants.{Run}}}}
+use Rattle.ffs_volume.proofs.Flags.{unset}
 use Rattle.ffs_maps.specs.Bits.{bits_of}
 use Rattle.ffs_workspace.specs.{Holds.HoldsPhase1, Lengths.has_unreported_dups}
 use Rattle.ffs_workspace.specs.declared.workspace.Workspace.{Workspace}
@@ -94,11 +95,6 @@ module _ (f : ℕ) where
             grind (arith, nat_tests)
       ]
 
-clear_replicate : (n f : ℕ) → is_set (replicate n false) f ≡ false
-clear_replicate zero f = refl
-clear_replicate (suc n) zero = refl
-clear_replicate (suc n) (suc f) = clear_replicate n f
-
 none_set : (bits : List Bool) → ((f : ℕ) → is_set bits f ≡ false) → set_count bits ≡ 0
 none_set [] clear = refl
 none_set (true ∷ bits) clear = absurd (let first = clear 0 in cc)
@@ -115,7 +111,7 @@ all_reported v bytes old new h t =
       | inl left ↦
           let is = left_is f dup os left in
           let has = (covers_owners f v (no_claims v) (owners_of v bytes)).has is.before in
-          let none = clear_replicate v.size f in
+          let none = unset v.size f in
           absurd (grind arith)
       | inr none ↦ none
     ] in

@@ -9,6 +9,7 @@ use Rattle.ffs_report.specs.{PhaseOutcome.ImageAfter, declared.fault.RunFault.Ru
 use Rattle.ffs_layout.specs.declared.geometry.Geometry.{Geometry}
 use Rattle.ffs_volume.specs.{Blocks.Claims.is_set, Disk.Areas.is_reserved}
 use Rattle.ffs_maps.specs.{Bits.{ClaimsRun, bits_of, set_run}, Reserved.with_reserved, declared.FragmentMap.FragmentMap}
+use Rattle.ffs_volume.proofs.Flags.{set_kept}
 use Rattle.ffs_maps.proofs.ReservedBits.{get_with}
 use Rattle.ffs_walk.specs.{Windows.{CanWalk, KeepsBlocks}, declared.blocks.Blocks.Blocks}
 use Rattle.ffs_workspace.specs.{Holds.IsFresh, Lengths.IsFor, Ready.CanRead, declared.workspace.{Workspace.Workspace}}
@@ -23,11 +24,8 @@ stay bits = record { flags = λ f h. h }
 pub stay_then : {a b c : List Bool} → StaySet a b → StaySet b c → StaySet a c
 stay_then p q = record { flags = λ f h. q.flags f (p.flags f h) }
 
-one_set : (bits : List Bool) (g f : ℕ) → is_set bits f ≡ true → is_set (slice_set bits g true) f ≡ true
-one_set bits g f h = grind (arith, cases_eq, cases_lt, get_or-set_same, get_or_past, get_or-set_other)
-
 pub stay_one : (bits : List Bool) (g : ℕ) → StaySet bits (slice_set bits g true)
-stay_one bits g = record { flags = one_set bits g }
+stay_one bits g = record { flags = set_kept bits g }
 
 stay_run : (bits : List Bool) (start len : ℕ) → StaySet bits (set_run bits start len)
 stay_run bits start zero = stay bits

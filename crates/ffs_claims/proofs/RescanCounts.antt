@@ -40,7 +40,7 @@ offers_firsts v i s start (suc len) k e = elim (cases_Bool (nat_lt s.dup_offers 
 ]
 
 -- ---- a replay that counts kept offers only where there is a cut
-abbrev by_cut : ℕ → Replay → Replay
+abbrev pub by_cut : ℕ → Replay → Replay
 by_cut cut q = record { bad = q.bad; kept = if cut == 0 then 0 else q.kept }
 
 begins_by_cut : (cut : ℕ) → by_cut cut fresh_replay ≡ fresh_replay
@@ -53,7 +53,7 @@ taken_by_cut : (v : Layout) (cut : ℕ) (q : Replay) (start len : ℕ) →
     run_taken v cut (by_cut cut q) start len ≡ run_taken v cut q start len
 taken_by_cut v cut q start len = grind (arith, nat_tests)
 
-step_by_cut : (v : Layout) (cut : ℕ) (q : Replay) (step : Step) →
+pub step_by_cut : (v : Layout) (cut : ℕ) (q : Replay) (step : Step) →
     replay_step_by_cut v cut (by_cut cut q) step ≡ by_cut cut (replay_after_step v cut q step)
 step_by_cut v cut q (Run start len block) = grind arith
 step_by_cut v cut q other = refl
@@ -66,11 +66,11 @@ run_offers : (v : Layout) (i : ℕ) (s : Claims) (cut start len : ℕ) (block : 
 run_offers v i s cut start len block going seen next = grind (arith, offers_firsts)
 
 -- a step, replayed: its kept offers, and those of its Run
-record StepAgain (v : Layout) (i cut : ℕ) (s : Claims) (r : Replay) (step : Step) : Type 0 where
-  offers : kept_in_step v i s step ≡ step_offers_again v i cut r step
-  looks : step_runs v i s step ≡ step_runs_again v i cut r step
+pub record StepAgain (v : Layout) (i cut : ℕ) (s : Claims) (r : Replay) (step : Step) : Type 0 where
+  pub offers : kept_in_step v i s step ≡ step_offers_again v i cut r step
+  pub looks : step_runs v i s step ≡ step_runs_again v i cut r step
 
-step_again : (v : Layout) (i cut : ℕ) (s : Claims) (step : Step) → is_replay_open cut (replay_of s) ≡ is_open s →
+pub step_again : (v : Layout) (i cut : ℕ) (s : Claims) (step : Step) → is_replay_open cut (replay_of s) ≡ is_open s →
     replay_after_step v cut (replay_of s) step ≡ replay_of (after_step v s step) →
     StepAgain v i cut s (by_cut cut (replay_of s)) step
 step_again v i cut s (Run start len block) going next =

@@ -7,11 +7,6 @@ use Rattle.ffs_volume.specs.{Laws.Geometry.IsAcceptedLayout, Report.Reads.table_
 use Rattle.ffs_volume.specs.Blocks.Inodes.{inodes_of}
 use Rattle.ffs_workspace.specs.{Tables.{HoldsInode, HoldsPiece}, declared.table.Table.Table}
 
--- a fact of every answer
-pub on_any : {T E P : Type 0} (r : Result T E) → P → OnOk r P
-on_any (Ok x) p = p
-on_any (Err e) p = tt
-
 -- the last block that was read is held: so many blocks end where it does, at most, and it begins
 -- before the inode x
 pub record HoldsLast (v : Layout) (blocks x : ℕ) (t : Table) : Type 0 where

@@ -1,21 +1,21 @@
 -- What phases 1 and 1b leave of a workspace at their answer, and how often they read the image.
 use Rattle.std.specs.Prelude.{◌≡◌, ◌<◌, ◌≤◌, ◌+◌, ◌-◌, ◌*◌, ◌^◌, ℕ, Bool, false, List, ◌∷◌, OnErr, MatchResult, Result}
-use Rattle.std.specs.Prelude.{Some, if◌then◌else◌, map, nat_lt, slice_index}
+use Rattle.std.specs.Prelude.{if◌then◌else◌, nat_lt, slice_index}
 use Rattle.std.specs.Int.{div_ceil}
 use Rattle.ffs_image.specs.Device.{Device}
 use Rattle.ffs_volume.specs.{declared.Layout.Layout, Blocks.{BlockCheck.{has_rescan, rescan_runs}, Owners.owners_of}}
 use Rattle.ffs_volume.specs.Blocks.{BlockCheck.first_offer_lines, Claims.no_claims, KeptOffers.{Offer, kept_in_owners}}
 use Rattle.ffs_volume.specs.Blocks.KeptSteps.{claims_before}
 use Rattle.ffs_maps.specs.Bits.{bits_of}
-use Rattle.ffs_volume.specs.Messages.Kinds.{Message, of_blocks, phase1b}
+use Rattle.ffs_volume.specs.Messages.Kinds.{Message, phase1b}
 use Rattle.ffs_volume.specs.{Directories.Volumes.marked_by_phase1_at, Encodings.{Kinds.kind_at, Links.start_at, Notes.note_at}}
 use Rattle.ffs_volume.specs.Report.{Memory.runs_limit, Reads.{sweep_reads, table_blocks}}
 use Rattle.ffs_volume.specs.Report.{VolumeReads.{indirect_count, volume_scan_reads}, Whole.run_count}
-use Rattle.ffs_report.specs.Known.{ForBytes}
+use Rattle.ffs_report.specs.Known.{ForBytes, IsContents}
 use Rattle.ffs_workspace.specs.{declared.workspace.Workspace.Workspace, Found.{WithFresh, WithPhase1}}
 use Rattle.ffs_workspace.specs.Lengths.{has_unreported_dups}
 use Rattle.ffs_workspace.specs.Holds.{HoldsClaims, HoldsPhase1, bool_at}
-use Rattle.ffs_claims.specs.{Leaves.{ClaimsAndFinds, StaySet}, RescanRuns.rescan_end}
+use Rattle.ffs_claims.specs.{Leaves.{ClaimsAndFinds, StaySet}, Lines.of_lines, RescanRuns.rescan_end}
 use Rattle.ffs_claims.specs.Reporting.{OffersReported, ReportedInPart}
 
 -- phase 1 leaves what it found in the image's bytes, and `has_dups` answers whether one of its lines is
@@ -64,7 +64,7 @@ pub record IsLeftByPhase1b (v : Layout) (bytes : List ℕ) (w : Workspace) : Typ
 -- the image gives the bytes, and the workspace holds what phase 1 notes of each inode: all that phase 1b goes by,
 -- beside the fragments that are to be reported
 abbrev pub WithNotes : Layout → Device → Workspace → List ℕ → Type 0
-WithNotes v d w bytes = (d.contents ≡ Some bytes) × ((x : ℕ) → slice_index w.notes.items x ≡ note_at v bytes x)
+WithNotes v d w bytes = IsContents d.contents bytes × ((x : ℕ) → slice_index w.notes.items x ≡ note_at v bytes x)
 
 -- the offers that inodes keep, of one inode after the other
 abbrev pub kept_offers : Layout → List ℕ → List Offer
@@ -72,7 +72,7 @@ kept_offers v bytes = kept_in_owners v (no_claims v) (owners_of v bytes)
 
 -- what phase 1b says where these fragments are to be reported: all with a DUP line, or those that a call before left
 abbrev pub rescan_messages : (dup : List Bool) → Layout → List ℕ → List Message
-rescan_messages dup v bytes = phase1b ∷ map of_blocks (first_offer_lines dup (kept_offers v bytes))
+rescan_messages dup v bytes = phase1b ∷ of_lines (first_offer_lines dup (kept_offers v bytes))
 
 -- phase 1b has gone over the offers that inodes keep, or over the first of them where it was cut short
 abbrev pub GoesOverOffers : {T E : Type 0} → Layout → List ℕ → (old new : Workspace) → Result T E → Type 0

@@ -10,7 +10,7 @@ use Rattle.ffs_volume.specs.{Report.Whole.claimed_count, Blocks.Claims.{is_set, 
 use Rattle.ffs_volume.specs.Blocks.Claims.{no_claims, reserved_map, after_offer, after_offers, after_run, after_step}
 use Rattle.ffs_volume.specs.{Blocks.Claims.{after_steps, after_owner, after_owners}}
 use Rattle.ffs_volume.specs.{Disk.Areas.{is_reserved}, Blocks.Owners.Owner}
-use Rattle.ffs_volume.proofs.{Potentials.cond_holds}
+use Rattle.ffs_volume.proofs.{Flags.set_kept, Potentials.cond_holds}
 use Rattle.ffs_volume.{specs.Blocks.Claims.all_claims}
 use Rattle.ffs_counts.specs.Reserved.{HasReserved, claimed_in}
 
@@ -46,9 +46,6 @@ set_apart v used a (suc n) all =
 -- each fragment that is used is used afterwards
 abbrev Keeps : Claims → Claims → Type 0
 Keeps s t = (f : ℕ) → is_set s.used f ≡ true → is_set t.used f ≡ true
-
-set_kept : (bits : List Bool) (g f : ℕ) → is_set bits f ≡ true → is_set (slice_set bits g true) f ≡ true
-set_kept bits g f h = grind (arith, cases_eq, cases_lt, get_or-set_same, get_or_past, get_or-set_other)
 
 offer_keeps : (v : Layout) (s : Claims) (g : ℕ) → Keeps s (after_offer v s g)
 offer_keeps v s g = grind (arith, cond_holds, set_kept)

@@ -11,6 +11,7 @@ use Rattle.ffs_volume.specs.{Encodings.ReplayCounts.replayed_runs, Laws.Geometry
 use Rattle.ffs_volume.specs.{declared.Layout.Layout, Find.Owner.{keeper_lines, keeper_lines_of_inode}}
 use Rattle.ffs_volume.specs.Encodings.Notes.{cut_in, note_at}
 use Rattle.ffs_workspace.proofs.{KindLaws.reports_at, NoteLaws.cut_is_noted}
+use Rattle.ffs_claims.proofs.Numbers.{is_inside}
 use Rattle.ffs_finding.{specs.Keepers.lines_again, proofs.{Replayed.inode_replay}}
 
 -- the lines of the inodes from n on
@@ -29,9 +30,6 @@ pub keepers_next : (v : Layout) (b : List ℕ) (f n : ℕ) → n < inodes_of v �
     keepers_from v b f n ≡ keeper_lines_of_inode v b f n ++ keepers_from v b f (n + 1)
 unfolding keepers_from
 keepers_next v b f n low = grind arith
-
-number_is : (v : Layout) (n : ℕ) → 2 ≤ n → n < inodes_of v → is_inode_number v n ≡ true
-number_is v n low high = grind (arith, nat_tests)
 
 -- the cut that is noted is the one with which the inode ends
 cut_ends : (v : Layout) (b : List ℕ) (n note : ℕ) → IsAcceptedLayout v → 2 ≤ n → n < inodes_of v →
@@ -62,7 +60,7 @@ not_walked File e = e
 not_walked Dir e = e
 
 class_there : (v : Layout) (b : List ℕ) (n : ℕ) → 2 ≤ n → n < inodes_of v → class_at v b n ≡ class_of v (inode_of v b n)
-class_there v b n low high = rw (number_is v n low high) refl
+class_there v b n low high = rw (is_inside v n low high) refl
 
 no_file : (v : Layout) (b : List ℕ) (n : ℕ) → 2 ≤ n → n < inodes_of v → kind_at v b n ≡ 0 →
     is_file_or_dir (class_of v (inode_of v b n)) ≡ false

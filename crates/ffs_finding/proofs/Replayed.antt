@@ -11,60 +11,8 @@ use Rattle.ffs_volume.specs.{Encodings.ReplayCounts.replay_step_by_cut, declared
 use Rattle.ffs_volume.specs.{declared.Step.TheVariants.{Run, Tail, Gap}, Find.Owner.{indirect_in, keeper_lines_of_step}}
 use Rattle.ffs_volume.specs.Find.Owner.{keeper_lines_of_steps}
 use Rattle.ffs_walk.specs.Keepings.{run_taken}
-use Rattle.ffs_claims.specs.Rescan.{step_offers_again}
+use Rattle.ffs_claims.{specs.Rescan.step_offers_again, proofs.RescanCounts.{by_cut, step_again, step_by_cut}}
 use Rattle.ffs_finding.specs.Keepers.{is_in_run, lines_again, step_lines_again}
-
--- ---- the offers that are kept are the first ones
-offers_firsts : (v : Layout) (i : ℕ) (s : Claims) (start len k : ℕ) →
-    s.kept + k ≡ (after_offers v s (range_with_len start len)).kept →
-    kept_in_offers v i s (range_with_len start len) ≡ map (offer_of i) (range_with_len start k)
-offers_firsts v i s start zero k e = let none : k ≡ 0 = omega arith in rw none refl
-offers_firsts v i s start (suc len) k e = elim (cases_Bool (nat_lt s.dup_offers 11)) [
-  | inl few ↦
-      let t = after_offer v s start in
-      let rest = range_with_len (start + 1) len in
-      let more = offers_keep v t rest in
-      let one : (after_offer v s start).kept ≡ s.kept + 1 = rw few (grind arith) in
-      let some : k ≡ suc (k - 1) = omega arith in
-      rw some (ap (λ b. (if b then offer_of i start ∷ [] else []) ++ kept_in_offers v i t rest) few
-      ∙ ap (λ os. offer_of i start ∷ os) (offers_firsts v i t (start + 1) len (k - 1) (omega arith)))
-  | inr full ↦
-      let shut = full_offers v i s (range_with_len start (suc len)) full in
-      let none : k ≡ 0 = omega (arith, ap (λ t. t.kept) shut.1) in
-      rw none shut.0
-]
-
--- ---- a replay that counts kept offers only where there is a cut
-abbrev by_cut : ℕ → Replay → Replay
-by_cut cut q = record { bad = q.bad; kept = if cut == 0 then 0 else q.kept }
-
-open_by_cut : (cut : ℕ) (q : Replay) → is_replay_open cut (by_cut cut q) ≡ is_replay_open cut q
-open_by_cut cut q = grind (arith, nat_tests)
-
-taken_by_cut : (v : Layout) (cut : ℕ) (q : Replay) (start len : ℕ) →
-    run_taken v cut (by_cut cut q) start len ≡ run_taken v cut q start len
-taken_by_cut v cut q start len = grind (arith, nat_tests)
-
-step_by_cut : (v : Layout) (cut : ℕ) (q : Replay) (step : Step) →
-    replay_step_by_cut v cut (by_cut cut q) step ≡ by_cut cut (replay_after_step v cut q step)
-step_by_cut v cut q (Run start len block) = grind arith
-step_by_cut v cut q other = refl
-
-run_offers : (v : Layout) (i : ℕ) (s : Claims) (cut start len : ℕ) (block : Option ℕ) → is_open s ≡ true →
-    is_replay_open cut (replay_of s) ≡ true →
-    replay_after_step v cut (replay_of s) (Run start len block) ≡ replay_of (after_step v s (Run start len block)) →
-    kept_in_run v i s start len ≡ map (offer_of i) (range_with_len start (run_taken v cut (replay_of s) start len))
-run_offers v i s cut start len block going seen next = grind (arith, offers_firsts)
-
-step_again : (v : Layout) (i cut : ℕ) (s : Claims) (step : Step) → is_replay_open cut (replay_of s) ≡ is_open s →
-    replay_after_step v cut (replay_of s) step ≡ replay_of (after_step v s step) →
-    kept_in_step v i s step ≡ step_offers_again v i cut (by_cut cut (replay_of s)) step
-step_again v i cut s (Run start len block) going next =
-    let same = open_by_cut cut (replay_of s) ∙ going in
-    let taken = taken_by_cut v cut (replay_of s) start len in
-    let kept = λ (q : is_open s ≡ true). run_offers v i s cut start len block q (going ∙ q) next in
-    grind arith
-step_again v i cut s other going next = refl
 
 -- ---- the lines
 -- an offer of some consecutive fragments is of f
@@ -92,7 +40,7 @@ lines_replay v f x earlier s [] few = refl
 lines_replay v f x earlier s (step ∷ steps) few =
     let cut = cut_of (after_steps v s (step ∷ steps)) in
     let after = step_replays v s step steps few in
-    let one = step_again v x cut s step (seen_replays v s (step ∷ steps) few) after in
+    let one = (step_again v x cut s step (seen_replays v s (step ∷ steps) few) after).offers in
     let line = line_again v f x earlier cut s (by_cut cut (replay_of s)) step one in
     let more = lines_replay v f x (earlier + indirect_in step) (after_step v s step) steps (step_few v s step few) in
     let next : replay_step_by_cut v cut (by_cut cut (replay_of s)) step ≡ by_cut cut (replay_of (after_step v s step)) =

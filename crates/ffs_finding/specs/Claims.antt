@@ -1,5 +1,5 @@
 -- What phase 1 leaves where it is run for the fragments that inodes claim, and what of that is asked for.
-use Rattle.std.specs.Prelude.{◌≡◌, ℕ, List, None, Some, Result, Ok, Err, slice_index}
+use Rattle.std.specs.Prelude.{◌≡◌, ℕ, List, None, Result, Ok, Err, slice_index}
 use Rattle.ffs_image.specs.Device.{Device, Faulted}
 use Rattle.ffs_volume.specs.{declared.Layout.Layout, Blocks.Claims.all_claims, Encodings.{Kinds.kind_at, Notes.note_at}}
 use Rattle.ffs_volume.specs.Report.Memory.{held_of}
@@ -22,7 +22,7 @@ pub record HoldsOwners (v : Layout) (image : List ℕ) (w : Workspace) : Type 0 
 
 -- the image gives the bytes, and the workspace holds that of them
 abbrev pub WithOwners : Layout → Device → Workspace → List ℕ → Type 0
-WithOwners v d w bytes = (d.contents ≡ Some bytes) × HoldsOwners v bytes w
+WithOwners v d w bytes = IsContents d.contents bytes × HoldsOwners v bytes w
 
 -- a workspace that holds what phase 1 leaves was made, a read failed in phase 1, or the memory was refused
 abbrev pub TakesClaims : Layout → Device → Device → Account → Account → Result Workspace FindFault → Type 0

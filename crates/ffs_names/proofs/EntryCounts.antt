@@ -3,7 +3,7 @@ use Rattle.std.proofs.Common.{◌≡◌, ◌≤◌, ◌||◌, nat_lt, if◌then�
 use Rattle.std.proofs.{Common.{arith, refl}, lemmas.Bool.{Decides.nat_tests, both_ways, false≢true, ltb-false, or_left}}
 use Rattle.std.proofs.lemmas.Bool.{or_parts}
 use Rattle.ffs_image.specs.declared.image.ImageFault.{ImageFault}
-use Rattle.ffs_volume.proofs.Results.{on_ok}
+use Rattle.ffs_volume.proofs.Results.{on_any, on_ok}
 use Rattle.ffs_walk.specs.declared.{blocks.Blocks.Blocks, window.Window.Window}
 use Rattle.ffs_survey.specs.Costs.{TakesReads}
 use Rattle.ffs_names.specs.{Costs.{HoldsReading, to_read}, declared.chunks.Chunks.Chunks}
@@ -25,17 +25,13 @@ part false n = omega arith
 pub at_most : (b : List ℕ) (s : Bool) (c : Chunks) → reads_by b s c ≤ to_read b c
 at_most b s c = part (may_by s c) (to_read b c)
 
-ok_if : {T E P : Type 0} (r : Result T E) → P → OnOk r P
-ok_if (Ok x) p = p
-ok_if (Err e) p = tt
-
 -- a call that reads on where it may, and reads nothing where it may not
 takes_where : {T : Type 0} (x y : Bool) (reads reads' n n' : ℕ) (held' : Type 0) (result : Result T ImageFault)
     → (y ≡ true → x ≡ true) → (x ≡ false → reads' ≤ reads) → (x ≡ true → TakesReads reads reads' n n' held' result)
     → TakesReads reads reads' (if x then n else 0) (if y then n' else 0) (y ≡ true → held') result
 takes_where true y reads reads' n n' held' result still none took = grind (arith, on_ok, part)
 takes_where false true reads reads' n n' held' result still none took = absurd (false≢true (still refl))
-takes_where false false reads reads' n n' held' result still none took = grind (arith, ok_if)
+takes_where false false reads reads' n n' held' result still none took = grind (arith, on_any)
 
 may_still : (s s' : Bool) (n n' : ℕ) → (s' ≡ true → s ≡ true) → n' ≤ n → (s' || nat_lt 0 n') ≡ true →
     (s || nat_lt 0 n) ≡ true

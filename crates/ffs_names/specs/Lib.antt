@@ -19,8 +19,7 @@
 -- `Shapes` says what a reading shows of the directory's shape. `Leaves` is what calls leave that read chunks or
 -- entries, and `SeenRuns` that the Runs which they look at are those of the block check.
 --
--- All directories: `Sweeps` has the values that change in a sweep, `Readers` what the survey of ffs_survey goes over,
--- `CalmDirs` which flags it sets, `Surveys` what it finds and leaves, and `Noting` the places of parent entries.
+-- All directories: `Readers` what the survey of ffs_survey goes over, `CalmDirs` which flags it sets, `Surveys` what it finds and leaves, and `Noting` the places of parent entries.
 pub mod Windows
 pub mod Fits
 pub mod RunCursors
@@ -32,7 +31,6 @@ pub mod Entering
 pub mod Shapes
 pub mod Leaves
 pub mod SeenRuns
-pub mod Sweeps
 pub mod Readers
 pub mod CalmDirs
 pub mod Surveys

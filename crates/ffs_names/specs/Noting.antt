@@ -4,6 +4,7 @@
 use Rattle.std.specs.Prelude.{◌≡◌, ◌⊎◌, ℕ, suc, ◌<◌, ◌≤◌, ◌^◌, ◌==◌, Bool, true, false, not, ◌&&◌, if◌then◌else◌, List}
 use Rattle.std.specs.{Prelude.{◌+◌, nat_lt, slice_index, length, vec_len, OnOk, Result}, List.list_any}
 use Rattle.std.specs.declared.{alloc.Global.Global, vec.Vec.Vec}
+use Rattle.ffs_workspace.specs.Moments.{WorkMoment}
 use Rattle.ffs_image.specs.{Device.{Device, ForContents}, Reads.ReadAfter, declared.image.ImageFault.ImageFault}
 use Rattle.ffs_image.specs.declared.image.Image.{Ghosts}
 use Rattle.ffs_volume.specs.declared.{constants.TheConstants.ROOTINO, Layout.Layout}
@@ -13,7 +14,7 @@ use Rattle.ffs_volume.specs.{Report.DirectoryReads.{costs_below, noted_cost}, En
 use Rattle.ffs_volume.specs.Encodings.Places.{is_due as is_to_be_read, name_in, place_in, AreNoted, IsNoted}
 use Rattle.ffs_workspace.specs.{Holds.HoldsSurvey, Ready.CanRead, declared.workspace.Windows.Windows}
 use Rattle.ffs_workspace.specs.declared.workspace.Workspace.{Workspace}
-use Rattle.ffs_names.specs.{Costs.{to_read, HoldsReading}, Sweeps.DirMoment, Windows.CanReadChunks}
+use Rattle.ffs_names.specs.{Costs.{to_read, HoldsReading}, Windows.CanReadChunks}
 use Rattle.ffs_names.specs.declared.chunks.Chunks.{Chunks}
 
 -- a place that isn't 0 and has 31 bits can be noted for children of p, which isn't 0, by lists of one
@@ -92,7 +93,7 @@ pub record NotesChildren (parents old new : List ℕ) (p : ℕ) : Type 0 where
 
 -- places of the entries of the directory p are noted, those of all where no read failed, and the image was read
 -- at most as often as the directory asks for
-pub record NotesDirectory {T : Type 0} (v : Layout) (b : List ℕ) (p : ℕ) (old new : DirMoment)
+pub record NotesDirectory {T : Type 0} (v : Layout) (b : List ℕ) (p : ℕ) (old new : WorkMoment)
     (result : Result T ImageFault) : Type 0 where
   pub right : NotesRight v b (roled_entries (volume_of v b) p) old.workspace.queue.items new.workspace.queue.items
   pub each : OnOk result (NotesEach v b (belongs_to old.workspace.parents.items p) (roled_entries (volume_of v b) p)
@@ -145,7 +146,7 @@ pub record NotingChunksLeaves {T : Type 0} (parents : Vec ℕ Global) (p : ℕ) 
 
 -- what a call leaves that notes places of children of p in `queue`: only the windows change beside it, and
 -- hold what the image gives, which was only read
-pub record NotingDirectoryLeaves {T : Type 0} (v : Layout) (p : ℕ) (old new : DirMoment) (result : Result T ImageFault)
+pub record NotingDirectoryLeaves {T : Type 0} (v : Layout) (p : ℕ) (old new : WorkMoment) (result : Result T ImageFault)
     : Type 0 where
   pub lists : new.workspace ≡ record old.workspace { windows = new.workspace.windows; queue = new.workspace.queue }
   pub ready : CanRead v new.image new.workspace
@@ -154,7 +155,7 @@ pub record NotingDirectoryLeaves {T : Type 0} (v : Layout) (p : ℕ) (old new : 
 
 -- what a call leaves that notes all places: only the windows and `queue` change, the windows hold what the
 -- image gives, which was only read, and where no read failed nothing is to be read any more: no parent entry is due
-pub record NotingLeaves {T : Type 0} (v : Layout) (old new : DirMoment) (result : Result T ImageFault) : Type 0 where
+pub record NotingLeaves {T : Type 0} (v : Layout) (old new : WorkMoment) (result : Result T ImageFault) : Type 0 where
   pub lists : new.workspace ≡ record old.workspace { windows = new.workspace.windows; queue = new.workspace.queue }
   pub ready : CanRead v new.image new.workspace
   pub read : ReadAfter old.image new.image result

@@ -1,5 +1,6 @@
 -- What a survey finds, which directories it flags, and what it leaves as it was.
 use Rattle.std.specs.Prelude.{◌≡◌, ◌+◌, ◌≤◌, ℕ, false, true, List, OnErr, OnOk, Result, slice_index}
+use Rattle.ffs_workspace.specs.Moments.{WorkMoment}
 use Rattle.ffs_image.specs.{Device.Device, Reads.ReadAfter, declared.image.ImageFault.ImageFault}
 use Rattle.ffs_volume.specs.{declared.Layout.Layout, Directories.{Roles.roled_entries, Volumes.volume_of}}
 use Rattle.ffs_survey.specs.Calm.{AreCalm}
@@ -7,7 +8,7 @@ use Rattle.ffs_volume.specs.{Directories.Calm.is_right_directory, Encodings.List
 use Rattle.ffs_workspace.specs.{declared.workspace.Workspace.Workspace, Leaves.LeavesBlockCheck, Ready.IsReady}
 use Rattle.ffs_workspace.specs.Holds.{HoldsClaims, HoldsReferences, HoldsSurvey}
 use Rattle.ffs_volume.specs.Report.DirectoryReads.{noted_costs}
-use Rattle.ffs_names.specs.{CalmDirs.FlagsEachCalm, Sweeps.DirMoment}
+use Rattle.ffs_names.specs.{CalmDirs.FlagsEachCalm}
 
 -- what a survey leaves: the workspace is ready for the next call, `queue` is zero, so that it notes no
 -- place of a parent entry, and the image was only read. After a failed read it counts as not surveyed
@@ -44,7 +45,7 @@ pub record IsSurveyed (v : Layout) (b : List ℕ) (w : Workspace) : Type 0 where
 
 -- a survey reads all directories: where no read failed, what it finds is held, and each calm directory has a
 -- flag. The image was read at most as often as the directories ask for
-pub record SurveysAll {T : Type 0} (v : Layout) (b : List ℕ) (old new : DirMoment) (result : Result T ImageFault)
+pub record SurveysAll {T : Type 0} (v : Layout) (b : List ℕ) (old new : WorkMoment) (result : Result T ImageFault)
     : Type 0 where
   pub found : OnOk result (IsSurveyed v b new.workspace)
   pub flags : OnOk result (FlagsEachCalm v b new.workspace)

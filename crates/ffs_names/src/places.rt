@@ -2,6 +2,7 @@
 
 ghost use Rattle.std.specs.Prelude.{◌≡◌, ◌+◌, ◌<◌, ◌≤◌, ◌^◌, ◌∷◌, [], true, false, IfOk, OnOk, MatchResult, length};
 ghost use Rattle.std.specs.{Prelude.vec_len, List.flat_map};
+ghost use Rattle.ffs_workspace.specs.Moments.{work_moment};
 ghost use Rattle.ffs_image.specs.{Device.ForContents, Known.ForBytes};
 ghost use Rattle.ffs_layout.specs.Entry.{entry_value};
 ghost use Rattle.ffs_volume.specs.Directories.{Entries.entries_of, Roles.{is_dir, role_of as role_in, roled_chunk}};
@@ -13,7 +14,7 @@ ghost use Rattle.ffs_names.specs.Noting.{chunk_noting, belongs_to, BeginsNotes, 
 ghost use Rattle.ffs_names.specs.Noting.{CanNoteDirectory, HoldsPlaces, NotingDirectoryLeaves, NotingChunksLeaves};
 ghost use Rattle.ffs_names.specs.Noting.{NotingLeaves, NotesDirectory, NotesEach, NotesInWords, NotesRight};
 ghost use Rattle.ffs_names.specs.Noting.{parents_costs};
-ghost use Rattle.ffs_names.specs.{Costs.{BeginsChunks, BeginsReads, SweepsOnce}, Sweeps.dir_moment, Readings.rest};
+ghost use Rattle.ffs_names.specs.{Costs.{BeginsChunks, BeginsReads, SweepsOnce}, Readings.rest};
 
 use crate::chunk_entries::ChunkEntries;
 use crate::chunks::Chunks;
@@ -171,10 +172,10 @@ fn note_directory<I: Image>(
         (WithClaims geometry.now.layout (I.device image.old) workspace.old)
         (λ bytes. is_dir (volume_of geometry.now.layout bytes) dir ≡ true
         → NotesDirectory geometry.now.layout bytes dir
-        (dir_moment I.Image image.old workspace.old)
-        (dir_moment I.Image image.new workspace.new) result) }
+        (work_moment I.Image image.old workspace.old)
+        (work_moment I.Image image.new workspace.new) result) }
     ensures leaves { NotingDirectoryLeaves geometry.now.layout dir
-        (dir_moment I.Image image.old workspace.old) (dir_moment I.Image image.new workspace.new)
+        (work_moment I.Image image.old workspace.old) (work_moment I.Image image.new workspace.new)
         result }
 {
     let note = workspace.notes[dir as usize];
@@ -229,8 +230,8 @@ fn note_places_unlimited<I: Image>(
         (WithSurvey geometry.now.layout (I.device image.old) workspace.old)
         (λ bytes. I.reads image.new ≤ I.reads image.old
         + parents_costs geometry.now.layout bytes workspace.old.parents.items) }
-    ensures leaves { NotingLeaves geometry.now.layout (dir_moment I.Image image.old workspace.old)
-        (dir_moment I.Image image.new workspace.new) result }
+    ensures leaves { NotingLeaves geometry.now.layout (work_moment I.Image image.old workspace.old)
+        (work_moment I.Image image.new workspace.new) result }
 {
     flag_parents(&workspace.reached, &workspace.parents, &mut workspace.queue);
     for dir in ROOTINO..geometry.inodes() {
@@ -272,8 +273,8 @@ pub fn note_places<I: Image>(
         (WithSurvey geometry.now.layout (I.device image.old) workspace.old)
         (λ bytes. I.reads image.new ≤ I.reads image.old
         + parents_costs geometry.now.layout bytes workspace.old.parents.items) }
-    ensures leaves { NotingLeaves geometry.now.layout (dir_moment I.Image image.old workspace.old)
-        (dir_moment I.Image image.new workspace.new) result }
+    ensures leaves { NotingLeaves geometry.now.layout (work_moment I.Image image.old workspace.old)
+        (work_moment I.Image image.new workspace.new) result }
 {
     let mut limited = LimitedImage::new(image, sweep_reads(geometry));
     let noted = note_places_unlimited(geometry, &mut limited, workspace);

@@ -1,9 +1,10 @@
 //! The survey of a volume's directories.
 
 ghost use Rattle.std.specs.Prelude.{◌≡◌, false, true, OnOk};
+ghost use Rattle.ffs_workspace.specs.Moments.{work_moment};
 ghost use Rattle.ffs_image.specs.Known.{ForBytes};
 ghost use Rattle.ffs_workspace.specs.{Found.WithClaims, Ready.{CanRead, IsReady}};
-ghost use Rattle.ffs_names.specs.{Costs.SweepsOnce, Sweeps.dir_moment, Surveys.{IsSurveyed, SurveyLeaves, SurveysAll}};
+ghost use Rattle.ffs_names.specs.{Costs.SweepsOnce, Surveys.{IsSurveyed, SurveyLeaves, SurveysAll}};
 ghost use Rattle.ffs_names.specs.{Surveys.SurveysNoMore, CalmDirs.FlagsEachCalm};
 
 use crate::entries::Entries;
@@ -27,8 +28,8 @@ fn survey_unlimited<I: Image>(
     ensures survey { ForBytes
         (WithClaims geometry.now.layout (I.device image.old) workspace.old)
         (λ bytes. SurveysAll geometry.now.layout bytes
-        (dir_moment I.Image image.old workspace.old)
-        (dir_moment I.Image image.new workspace.new) result) }
+        (work_moment I.Image image.old workspace.old)
+        (work_moment I.Image image.new workspace.new) result) }
     ensures leaves { SurveyLeaves geometry.now.layout (I.device image.old) (I.device image.new)
         workspace.old workspace.new result }
 {

@@ -1,11 +1,12 @@
 -- The windows hold what the image gives where a chunk is read.
 use Rattle.std.{proofs.Common.{◌≡◌, ◌≤◌, ◌+◌, ℕ, Bool, arith, ap, rules, Result, Ok, Err, vec_len}, specs.declared.alloc.Global.Global}
 use Rattle.std.specs.declared.vec.Vec.{Vec}
+use Rattle.ffs_workspace.specs.Moments.{WorkMoment}
 use Rattle.ffs_image.specs.{Device.Device, declared.image.ImageFault.ImageFault}
 use Rattle.ffs_volume.specs.declared.Layout.{Layout}
 use Rattle.ffs_walk.specs.declared.{blocks.Blocks.Blocks, window.Window.Window}
 use Rattle.ffs_workspace.specs.{declared.workspace.{Windows.Windows, Workspace.Workspace}, Ready.CanRead}
-use Rattle.ffs_paths.specs.{declared.kept_parent.KeptParent.KeptParent, Reads.{OnlyReadsFew, PathMoment}}
+use Rattle.ffs_paths.specs.{declared.kept_parent.KeptParent.KeptParent, Reads.{OnlyReadsFew}}
 use Rattle.ffs_paths.proofs.{Climbed.{few_more, few_then}, Keeping.{kept_on, reads_then, kept_parent_held}}
 use Rattle.ffs_names.specs.Windows.{CanReadChunks, CanWalkDir}
 use Rattle.ffs_pathnames.specs.Ready.{LimitedPathLeaves, ReadyWith}
@@ -65,7 +66,7 @@ pub can_read_in : (v : Layout) (d : Device) (w : Workspace) → CanRead v d w
 can_read_in v d w r = grind arith
 
 -- what a call leaves that gathered a path, and another that only read
-pub leaves_read : {S T : Type 0} {n k m : ℕ} {v : Layout} {old mid new : PathMoment} {s : KeptParent} {x : S}
+pub leaves_read : {S T : Type 0} {n k m : ℕ} {v : Layout} {old mid new : WorkMoment} {s : KeptParent} {x : S}
     (result : Result T ImageFault) → LimitedPathLeaves v n old mid s (Ok x) → OnlyReadsFew v k mid new result →
     n + k ≤ m → LimitedPathLeaves v m old new s result
 leaves_read (Ok y) path read more = record {
@@ -86,6 +87,6 @@ leaves_read (Err e) path read more = record {
 }
 
 -- where gathering a path failed
-pub gather_failed : {S T : Type 0} {n m : ℕ} {v : Layout} {old new : PathMoment} {s : KeptParent} (fault : ImageFault) →
+pub gather_failed : {S T : Type 0} {n m : ℕ} {v : Layout} {old new : WorkMoment} {s : KeptParent} (fault : ImageFault) →
     LimitedPathLeaves {T = S} v n old new s (Err fault) → n ≤ m → LimitedPathLeaves {T = T} v m old new s (Err fault)
 gather_failed fault left more = grind (arith, few_more)

@@ -1,11 +1,12 @@
 -- What a look at a directory finds, how often it reads for it, and what of a workspace stays.
 use Rattle.std.specs.{Prelude.{◌≡◌, ◌+◌, ◌≤◌, ℕ, ◌==◌, IfOk, List, [], Result}, List.find}
+use Rattle.ffs_workspace.specs.Moments.{WorkMoment}
 use Rattle.ffs_image.specs.{Reads.ReadAfter, declared.image.ImageFault.ImageFault}
 use Rattle.ffs_report.specs.Known.{ForBytes}
 use Rattle.ffs_volume.specs.{declared.Layout.Layout, Blocks.Inodes.inode_of, Directories.Roles.roled_entries}
 use Rattle.ffs_volume.specs.Directories.{PathnameCheck.are_sound, Volumes.volume_of}
 use Rattle.ffs_pathnames.specs.{declared.look.{Examination.Examination, FirstLook.FirstLook}, Gathers.passed_of}
-use Rattle.ffs_pathnames.specs.{Moments.PathMoment, PassedNames.{are_quiet, after_looks}, StartChunks.start_chunk, Stamps.KeepPlaces}
+use Rattle.ffs_pathnames.specs.{PassedNames.{are_quiet, after_looks}, StartChunks.start_chunk, Stamps.KeepPlaces}
 use Rattle.ffs_workspace.specs.{declared.workspace.Workspace.Workspace, Leaves.LeavesSurvey, Ready.CanRead}
 
 -- a call leaves what the phases before the pathname check left, the flags, and the places that words note
@@ -16,7 +17,7 @@ pub record LeavesAllButDue (old new : Workspace) : Type 0 where
 
 -- what the first look at a directory leaves: the image, but for a read that failed, and all of the
 -- workspace but which words are due
-pub record ExamineLeaves {T : Type 0} (v : Layout) (old new : PathMoment) (result : Result T ImageFault) :
+pub record ExamineLeaves {T : Type 0} (v : Layout) (old new : WorkMoment) (result : Result T ImageFault) :
     Type 0 where
   pub lists : LeavesAllButDue old.workspace new.workspace
   pub ready : CanRead v new.image new.workspace
@@ -46,7 +47,7 @@ StampsOwn v b dir old new = (passed_of new).stamps
 -- a look at a directory finds what `finds` says, by what is known of the bytes, and leaves all but which
 -- words are due
 pub record Examines {T : Type 0} (v : Layout) (knows : List ℕ → Type 0) (finds : T → List ℕ → Type 0)
-    (old new : PathMoment) (result : Result T ImageFault) : Type 0 where
+    (old new : WorkMoment) (result : Result T ImageFault) : Type 0 where
   pub found : IfOk result (λ x. ForBytes knows (finds x))
   pub leaves : ExamineLeaves v old new result
 

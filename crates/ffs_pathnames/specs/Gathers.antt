@@ -1,6 +1,7 @@
 -- What is gathered for the messages on an entry and on a directory.
 use Rattle.std.specs.Prelude.{◌≡◌, ℕ, ◌<◌, ◌^◌, Bool, true, false, IsTrue, List, vec_len, ◌+◌, ◌≤◌, Result, IfOk, OnOk}
 use Rattle.std.specs.Prelude.{if◌then◌else◌}
+use Rattle.ffs_workspace.specs.Moments.{work_moment}
 use Rattle.ffs_image.specs.{Device.ForContents, declared.image.{Image.Ghosts, ImageFault.ImageFault}}
 use Rattle.ffs_volume.specs.{Messages.Kinds.TreeMessage, Directories.{Volumes.volume_of, Entries.Entry}}
 use Rattle.ffs_volume.specs.declared.{Attr.Attr, Layout.Layout, verdict.Verdict.{Verdict, TheVariants.Named}}
@@ -11,7 +12,7 @@ use Rattle.ffs_volume.specs.Report.Reads.{line_reads, path_reads}
 use Rattle.ffs_layout.specs.Entry.{entry_value}
 use Rattle.ffs_report.specs.Known.{ForBytes}
 use Rattle.ffs_paths.specs.{DirectoryPaths.IsPathOf, KeptParents.{kept_moment, KeepsChild, PathLeaves, SparesReads}}
-use Rattle.ffs_paths.specs.{LastPaths.last_path, Reads.{KnowsPlaces, OnlyReadsFew, path_moment}}
+use Rattle.ffs_paths.specs.{LastPaths.last_path, Reads.{KnowsPlaces, OnlyReadsFew}}
 use Rattle.ffs_paths.specs.declared.{entry_paths.EntryPaths.EntryPaths, kept_parent.KeptParent.KeptParent}
 use Rattle.ffs_pathnames.specs.{DirectoryContext.{DirectoryContext, KeepsPath, KnowsPath}, Ready.LimitedPathLeaves}
 use Rattle.ffs_pathnames.specs.declared.{gather.DirectoryEntry.DirectoryEntry, entry_texts.EntryTexts.EntryTexts}
@@ -89,12 +90,12 @@ module _ {S : Type 0} (I : Ghosts S) (v : Layout) (old new : S) (w w' : Workspac
   -- what calls leave that make at most n reads, paths among them
   abbrev pub ReadsForPaths : {T : Type 0} → ℕ → KeptParent → Result T ImageFault → Type 0
   ReadsForPaths n s result =
-      LimitedPathLeaves v n (path_moment I old w) (path_moment I new w') s result
+      LimitedPathLeaves v n (work_moment I old w) (work_moment I new w') s result
 
   -- the attributes of the inode x are read, in one read at most
   pub record ReadsAttr (x : ℕ) (result : Result Attr ImageFault) : Type 0 where
     pub attr : IfOk result (λ a. ForContents (I.device old).contents (λ b. a ≡ attributes (volume_of v b) x))
-    pub reads : OnlyReadsFew v 1 (path_moment I old w) (path_moment I new w') result
+    pub reads : OnlyReadsFew v 1 (work_moment I old w) (work_moment I new w') result
 
   -- so many reads were made at most, where each place is noted
   abbrev pub ReadsByPlaces : (most : ℕ) → Type 0
@@ -107,7 +108,7 @@ module _ {S : Type 0} (I : Ghosts S) (v : Layout) (old new : S) (w w' : Workspac
     pub made : OnOk result (ForBytes (KnowsPath v (I.device old).contents w dir t) (λ b.
         IsPathOf (graph_of (volume_of v b)) dir t'.paths.directory))
     pub path : KeepsPath v (I.device old) w dir t t'
-    pub leaves : PathLeaves v path_reads (path_moment I old w) (path_moment I new w') t'.kept_parent result
+    pub leaves : PathLeaves v path_reads (work_moment I old w) (work_moment I new w') t'.kept_parent result
 
   -- a path of the directory `dir` spares the reads of what is kept, and leaves that for the next, whichever
   -- directory y is checked
@@ -159,7 +160,7 @@ module _ {S : Type 0} (I : Ghosts S) (v : Layout) (old new : S) (w w' : Workspac
         → (IsTrue (asks_path verdict) → path ≡ dir_path (graph_of (volume_of v b)) e.number)
         → IsEnough (volume_of v b) verdict dir e.number e.name a (last_path p') path))
     pub same : p'.directory ≡ p.directory
-    pub reads : OnlyReadsFew v (if_wanted (asks_attr verdict) 1) (path_moment I old w) (path_moment I new w') result
+    pub reads : OnlyReadsFew v (if_wanted (asks_attr verdict) 1) (work_moment I old w) (work_moment I new w') result
 
   -- all that messages of a verdict on an entry show, where the path of its directory is made; that stays
   pub record GathersPathsAndAttr (e : Entry) (verdict : Verdict) (t t' : EntryTexts) (result : Result Attr ImageFault)

@@ -1,14 +1,15 @@
 -- How often lines read the image.
 use Rattle.std.specs.Prelude.{ℕ, ◌+◌, ◌*◌, ◌≤◌, if◌then◌else◌, List, length}
+use Rattle.ffs_workspace.specs.Moments.{WorkMoment}
 use Rattle.ffs_volume.specs.{Messages.Kinds.TreeMessage, declared.Layout.Layout, Report.Reads.{line_reads, path_reads}}
 use Rattle.ffs_volume.specs.Encodings.Places.{AreNoted}
 use Rattle.ffs_paths.specs.Reads.{ReadsFew}
-use Rattle.ffs_pathnames.specs.{Moments.PathMoment, declared.entry_texts.EntryTexts.EntryTexts}
+use Rattle.ffs_pathnames.specs.{declared.entry_texts.EntryTexts.EntryTexts}
 
 -- `line_reads` reads were made at most for each of these lines, which are those of an image's
 -- bytes, and none into the window of indirect blocks, where the place of each directory is noted
 abbrev pub ReadsByLines : Layout → (knows : List ℕ → Type 0) → (lines : List ℕ → List TreeMessage) →
-    (old new : PathMoment) → Type 0
+    (old new : WorkMoment) → Type 0
 ReadsByLines v knows lines old new = (b : List ℕ) → knows b → AreNoted v b old.workspace.queue.items
     → ReadsFew (line_reads * length (lines b)) old.reads new.reads old.workspace new.workspace
 

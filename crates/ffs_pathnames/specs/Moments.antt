@@ -1,18 +1,18 @@
--- Moments of the check of directories. Where no line is printed that of `ffs_paths` serves: `PathMoment` (the
+-- Moments of the check of directories. Where no line is printed that of `ffs_workspace` serves: `WorkMoment` (the
 -- image, how often it was read by then, and the workspace).
 use Rattle.std.specs.Prelude.{ℕ}
+use Rattle.ffs_workspace.specs.Moments.{WorkMoment, work_moment}
 use Rattle.ffs_image.specs.Device.{Device}
 use Rattle.ffs_image.specs.declared.image.Image as image
 use Rattle.ffs_report.specs.{Progress.{Progress, progress}, declared.report.Report.Report}
 use Rattle.ffs_report.specs.declared.output.Output as output
 use Rattle.ffs_names.specs.declared.chunks.Chunks.{Chunks}
 use Rattle.ffs_workspace.specs.declared.workspace.{Windows.Windows, Workspace.Workspace}
-pub use Rattle.ffs_paths.specs.Reads.{PathMoment, path_moment}
 
 -- a moment of printing lines: the image, its reads and the workspace at that time, how far the report has
 -- come, and what is kept from one line to the next, as the texts of entries (`tt` where nothing is)
 pub record LinesMoment (K : Type 0) : Type 0 where
-  pub at : PathMoment
+  pub at : WorkMoment
   pub said : Progress
   pub kept : K
 
@@ -21,7 +21,7 @@ pub record LinesMoment (K : Type 0) : Type 0 where
 abbrev pub lines_moment : {I W K : Type 0} → image.Ghosts I → output.Ghosts W → I → Workspace → Report W → K
     → LinesMoment K
 lines_moment I W image w report kept =
-    record { at = path_moment I image w; said = progress W.sink report; kept = kept }
+    record { at = work_moment I image w; said = progress W.sink report; kept = kept }
 
 -- a moment of a directory's second reading: the image, how often it was read by then, how many reads are
 -- left, the windows, and how far its chunks are read

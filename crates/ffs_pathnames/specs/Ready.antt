@@ -1,10 +1,11 @@
 -- When paths of directories can be made, too, and what calls leave.
 use Rattle.std.specs.Prelude.{◌≡◌, ◌+◌, ◌*◌, ◌<◌, ◌≤◌, ℕ, Bool, IsTrue, Result, Ok, Err, slice_index}
+use Rattle.ffs_workspace.specs.Moments.{WorkMoment}
 use Rattle.ffs_image.specs.{Device.Device, declared.image.ImageFault.ImageFault}
 use Rattle.ffs_volume.specs.{declared.Layout.Layout, Encodings.Notes.cut_in}
 use Rattle.ffs_workspace.specs.{declared.workspace.Workspace.Workspace, Ready.CanRead, Leaves.LeavesSurvey}
 use Rattle.ffs_report.specs.{PhaseOutcome.ImageAfter, declared.fault.RunFault.RunFault}
-use Rattle.ffs_paths.specs.{Reads.{CanReadFor, PathMoment}, declared.kept_parent.KeptParent.KeptParent}
+use Rattle.ffs_paths.specs.{Reads.{CanReadFor}, declared.kept_parent.KeptParent.KeptParent}
 use Rattle.ffs_pathnames.specs.{declared.look.Directory.Directory, Stamps.KeepPlaces}
 pub use Rattle.ffs_paths.specs.KeptParents.{ReadyWith, ReadyToPath, PathLeaves}
 
@@ -40,14 +41,14 @@ ReadyAfter v d w s (Ok x) = ReadyWith v d w s
 ReadyAfter v d w s (Err e) = CanRead v d w
 
 -- what a call leaves that makes paths, and reads what messages show. It makes n reads at most, of any image
-pub record LimitedPathLeaves {T : Type 0} (v : Layout) (n : ℕ) (old new : PathMoment) (s : KeptParent)
+pub record LimitedPathLeaves {T : Type 0} (v : Layout) (n : ℕ) (old new : WorkMoment) (s : KeptParent)
     (result : Result T ImageFault) : Type 0 where
   pub path : PathLeaves v n old new s result
   pub most : new.reads ≤ old.reads + n
 
 -- what a call of the phase leaves: the image, but for a read that failed, what the block check and
 -- the survey found, the places that words note, and all that the next call asks for
-pub record PhaseLeaves {T : Type 0} (v : Layout) (old new : PathMoment) (s : KeptParent) (result : Result T RunFault) :
+pub record PhaseLeaves {T : Type 0} (v : Layout) (old new : WorkMoment) (s : KeptParent) (result : Result T RunFault) :
     Type 0 where
   pub image : ImageAfter old.image new.image result
   pub survey : LeavesSurvey old.workspace new.workspace
@@ -56,7 +57,7 @@ pub record PhaseLeaves {T : Type 0} (v : Layout) (old new : PathMoment) (s : Kep
 
 -- the same of a call that changes nothing of the workspace but its windows; the window of the
 -- current directory is as it was
-pub record LinesLeave {T : Type 0} (v : Layout) (old new : PathMoment) (s : KeptParent) (result : Result T RunFault) :
+pub record LinesLeave {T : Type 0} (v : Layout) (old new : WorkMoment) (s : KeptParent) (result : Result T RunFault) :
     Type 0 where
   pub image : ImageAfter old.image new.image result
   pub lists : new.workspace ≡ record old.workspace { windows = new.workspace.windows }

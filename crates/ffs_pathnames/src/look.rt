@@ -2,10 +2,11 @@
 //! its entries, whether each chunk is sound, and whether a hole is kept. It stamps the inodes that
 //! belong to the directory. `examine` reads the inode, and looks at the chunks within a limit.
 ghost use Rattle.std.specs.Prelude.{◌≡◌, ◌+◌, ◌≤◌, ◌&&◌, true, false, List, [], ◌∷◌};
+ghost use Rattle.ffs_workspace.specs.Moments.{work_moment};
 ghost use Rattle.ffs_volume.specs.{Report.DirectoryReads.{directory_cost, directory_runs}, declared.Order.Order};
 ghost use Rattle.ffs_volume.specs.{declared.Role.Role, Directories.{Entries.{Chunk, chunk_of, is_sound}, Roles.Volume}};
 ghost use Rattle.ffs_report.specs.Known.{ForBytes};
-ghost use Rattle.ffs_pathnames.specs.{DirectoryContext.{DirectoryContext, KnowsDirectory}, Moments.path_moment};
+ghost use Rattle.ffs_pathnames.specs.{DirectoryContext.{DirectoryContext, KnowsDirectory}};
 ghost use Rattle.ffs_pathnames.specs.{ReadsLeft.LeftForLook, Examines.{Examines, IsExamined, IsFirstLook, StampsOwn}};
 ghost use Rattle.ffs_pathnames.specs.{Examines.TakesLook, StartChunks.start_chunk, Looks.{StampsEntries, roled_in}};
 ghost use Rattle.ffs_pathnames.specs.{Ready.{ReadyToLook, ReadyToRead}, Sees.{CanLook, CanStamp, Sees, stamps_in}};
@@ -44,7 +45,7 @@ fn examine_unlimited<I: Image>(
         (DirectoryContext geometry.now.layout (I.device image.old).contents workspace.old dir)
         (λ e b. IsExamined geometry.now.layout b dir workspace.old e start.new
         × StampsOwn geometry.now.layout b dir workspace.old workspace.new)
-        (path_moment I.Image image.old workspace.old) (path_moment I.Image image.new workspace.new)
+        (work_moment I.Image image.old workspace.old) (work_moment I.Image image.new workspace.new)
         result }
     ensures cost { ForBytes
         (DirectoryContext geometry.now.layout (I.device image.old).contents workspace.old dir)
@@ -111,7 +112,7 @@ pub fn examine<I: Image>(
         (LeftForLook geometry.now.layout (I.device image.old) workspace.old dir reads_left.old)
         (λ e b. IsExamined geometry.now.layout b dir workspace.old e start.new
         × StampsOwn geometry.now.layout b dir workspace.old workspace.new)
-        (path_moment I.Image image.old workspace.old) (path_moment I.Image image.new workspace.new)
+        (work_moment I.Image image.old workspace.old) (work_moment I.Image image.new workspace.new)
         result }
     ensures cost { TakesLook
         (DirectoryContext geometry.now.layout (I.device image.old).contents workspace.old dir)
@@ -187,7 +188,7 @@ pub fn look_directory<I: Image>(
         (KnowsDirectory geometry.now.layout (I.device image.old) workspace.old directory.now)
         (λ f b. IsFirstLook geometry.now.layout b directory.now.number workspace.old f start.new
         × StampsOwn geometry.now.layout b directory.now.number workspace.old workspace.new)
-        (path_moment I.Image image.old workspace.old) (path_moment I.Image image.new workspace.new)
+        (work_moment I.Image image.old workspace.old) (work_moment I.Image image.new workspace.new)
         result }
     ensures cost { ForBytes
         (KnowsDirectory geometry.now.layout (I.device image.old) workspace.old directory.now)

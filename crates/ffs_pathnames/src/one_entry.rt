@@ -1,6 +1,7 @@
 //! The lines of a plain or an extra entry.
+ghost use Rattle.ffs_workspace.specs.Moments.{work_moment};
 ghost use Rattle.ffs_volume.specs.Directories.PathnameCheck.{extra_lines};
-ghost use Rattle.ffs_pathnames.specs.{EntryLines.ReportsEntries, Moments.{lines_moment, path_moment}, Ready.{ReadyToPath, LinesLeave}};
+ghost use Rattle.ffs_pathnames.specs.{EntryLines.ReportsEntries, Moments.{lines_moment}, Ready.{ReadyToPath, LinesLeave}};
 ghost use Rattle.ffs_pathnames.specs.{SaysTreeMessages.SaysTreeMessages, Gathers.{HasInodeLists, IsVerdictIn, extra_reported, plain_lines_by}};
 ghost use Rattle.ffs_layout.specs.Entry.{entry_value};
 ghost use Rattle.ffs_report.specs.Progress.{progress};
@@ -49,8 +50,8 @@ pub fn report_plain<I: Image, W: Output>(
         (λ vol. plain_lines_by vol workspace.old entry.now)
         (lines_moment I.Image W.Output image.old workspace.old report.old texts.old)
         (lines_moment I.Image W.Output image.new workspace.new report.new texts.new) result }
-    ensures leaves { LinesLeave geometry.now.layout (path_moment I.Image image.old workspace.old)
-        (path_moment I.Image image.new workspace.new) texts.new.kept_parent result }
+    ensures leaves { LinesLeave geometry.now.layout (work_moment I.Image image.old workspace.old)
+        (work_moment I.Image image.new workspace.new) texts.new.kept_parent result }
 {
     let verdict = verdict_of(workspace, entry.dir, &entry.entry);
     if verdict.is_silent() {
@@ -106,8 +107,8 @@ pub fn report_extra<I: Image, W: Output>(
         (λ vol. extra_reported vol entry.now)
         (lines_moment I.Image W.Output image.old workspace.old report.old texts.old)
         (lines_moment I.Image W.Output image.new workspace.new report.new texts.new) result }
-    ensures leaves { LinesLeave geometry.now.layout (path_moment I.Image image.old workspace.old)
-        (path_moment I.Image image.new workspace.new) texts.new.kept_parent result }
+    ensures leaves { LinesLeave geometry.now.layout (work_moment I.Image image.old workspace.old)
+        (work_moment I.Image image.new workspace.new) texts.new.kept_parent result }
 {
     let attr = gather_extra(geometry, image, workspace, texts, entry.dir)?;
     say_extra(attr, texts.directory.as_slice(), &entry.entry, report)?;

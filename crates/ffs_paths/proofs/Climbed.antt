@@ -1,13 +1,14 @@
 -- How far a climb to the root has come, and how often it has read.
 use Rattle.std.proofs.Common.{◌≡◌, ◌≢◌, ℕ, zero, suc, ◌+◌, ◌*◌, ◌<◌, ◌≤◌, false, List, ◌∷◌, length, ltb-false, Some}
 use Rattle.std.proofs.{Common.{arith, Option, Result, sym, ◌∙◌, true}, Math.Nat.mul-le-mul_right}
+use Rattle.ffs_workspace.specs.Moments.{WorkMoment}
 use Rattle.ffs_image.specs.declared.image.ImageFault.{ImageFault}
 use Rattle.ffs_volume.specs.Directories.{Graph.{Graph, level}, Paths.joined, Parents.graph_of, Volumes.volume_of}
 use Rattle.ffs_volume.{specs.{declared.Layout.Layout, Encodings.Places.IsNoted}, proofs.LevelLaws.reached-level}
 use Rattle.ffs_survey.proofs.ParentLaws.{root_level}
 use Rattle.ffs_workspace.specs.{Found.WithSurvey, Holds.{bool_at, HoldsSurvey}, declared.workspace.Workspace.Workspace}
 use Rattle.ffs_paths.specs.{Buffers.HoldsNames, Climbing.IsParentOf, Reads.{ForTree, KnowsPlaces, names_to, OnlyReads}}
-use Rattle.ffs_paths.{specs.Reads.{EachTakesAtMost, PathMoment, ReadsFew, ReadsNames}, proofs.LongestEnds.joined-length}
+use Rattle.ffs_paths.{specs.Reads.{EachTakesAtMost, ReadsFew, ReadsNames}, proofs.LongestEnds.joined-length}
 use Rattle.ffs_paths.{proofs.WaysUp.{IsOnWay, parent_is}, specs.declared.buffer.PathBuffer.PathBuffer}
 
 -- so many steps were climbed, with a read for each at most, and with a name for each that takes two
@@ -69,7 +70,7 @@ steps_below {k = k} {step = step} reads reads' n l way h =
     rw l (omega (arith, h, mul-le-mul_right (1 + n) (below_way way.left step k way.steps)))
 
 -- so it leaves what it states
-pub climb_leaves : {T : Type 0} {v : Layout} {old new : PathMoment} {x at step : ℕ} {p : PathBuffer}
+pub climb_leaves : {T : Type 0} {v : Layout} {old new : WorkMoment} {x at step : ℕ} {p : PathBuffer}
     {result : Result T ImageFault} → bool_at old.workspace.reached.items x ≡ true →
     OnlyReads v old.image new.image old.workspace new.workspace result →
     ForTree v old.image old.workspace (λ tree. (k : ℕ) → level tree x ≡ Some k → IsOnWay tree k x at step p) →

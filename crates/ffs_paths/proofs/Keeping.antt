@@ -1,10 +1,11 @@
 -- What is kept of a directory and its children stays right where only other parts of a workspace change.
 use Rattle.std.proofs.Common.{arith, ◌≡◌, List, ℕ, refl, ap, Option, Result, Ok, vec_len, Err, OnErr, OnOk}
+use Rattle.ffs_workspace.specs.Moments.{WorkMoment}
 use Rattle.ffs_image.specs.{Device.Device, Reads.ReadAfter, declared.image.ImageFault.ImageFault}
 use Rattle.ffs_volume.specs.{declared.Layout.Layout, Directories.Graph.Graph}
 use Rattle.ffs_workspace.specs.{declared.workspace.Workspace.Workspace, Leaves.LeavesSurvey, Ready.CanRead}
 use Rattle.ffs_workspace.proofs.Leaving.{claims_held, claims_left, survey_held, survey_left, windows_leave}
-use Rattle.ffs_paths.specs.{Reads.{ForTree, OnlyReads, PathMoment, ReadsNames}, declared.kept_parent.KeptParent.KeptParent}
+use Rattle.ffs_paths.specs.{Reads.{ForTree, OnlyReads, ReadsNames}, declared.kept_parent.KeptParent.KeptParent}
 use Rattle.ffs_paths.specs.KeptParents.{IsKeptParent, KeepsParent, SamePlaces}
 use Rattle.ffs_walk.specs.{declared.{window.Window.Window, blocks.Blocks.Blocks}, Windows.WindowHolds}
 use Rattle.ffs_names.specs.Windows.{CanReadChunks}
@@ -54,7 +55,7 @@ pub no_reads : {T : Type 0} {v : Layout} {d : Device} {w : Workspace} {x : T} �
     OnlyReads v d d w w (Ok x)
 no_reads r = record { lists = refl; current = refl; ready = r; read = refl }
 
-pub names_none : {T : Type 0} {v : Layout} {x : ℕ} {now : PathMoment} {y : T} → CanRead v now.image now.workspace →
+pub names_none : {T : Type 0} {v : Layout} {x : ℕ} {now : WorkMoment} {y : T} → CanRead v now.image now.workspace →
     ReadsNames v x now now (Ok y)
 names_none r = record {
   reads = no_reads r;

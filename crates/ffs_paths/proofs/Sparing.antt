@@ -1,10 +1,11 @@
 -- What a path leaves unread where that of the parent is kept.
 use Rattle.std.proofs.Common.{◌≡◌, ◌∙◌, ◌↔◌, ◌+◌, ◌≤◌, ℕ, List, Option, Some, None, Result, Ok, Err, sym, subst, refl, ap, arith}
 use Rattle.std.specs.Prelude.{OnOk}
+use Rattle.ffs_workspace.specs.Moments.{WorkMoment}
 use Rattle.ffs_image.specs.declared.image.ImageFault.{ImageFault}
 use Rattle.ffs_volume.specs.{declared.Layout.Layout, Directories.{Parents.graph_of, Volumes.volume_of}}
 use Rattle.ffs_workspace.specs.declared.workspace.Workspace.{Workspace}
-use Rattle.ffs_paths.specs.{Climbing.IsParentOf, Reads.{HoldsPlaceOf, KnowsPlaces, names_to, PathMoment, ReadsName}}
+use Rattle.ffs_paths.specs.{Climbing.IsParentOf, Reads.{HoldsPlaceOf, KnowsPlaces, names_to, ReadsName}}
 use Rattle.ffs_paths.specs.Reads.{ReadsNames, ReadsPartOf}
 use Rattle.ffs_paths.specs.KeptParents.{HasPathOf, HoldsPlaceThen, KeepsChild, KeepsParent, KeepsPathOf, KeptMoment, PathCosts, SparesReads}
 use Rattle.ffs_paths.{specs.declared.kept_parent.KeptParent.KeptParent, proofs.Climbed.{few_more, few_then, names_more, noted_child}}
@@ -42,13 +43,13 @@ keeps_child {p = p} of kept = record {
 }
 
 -- and the window holds the part of the name
-held_then : {T : Type 0} {v : Layout} {x : ℕ} (old mid new : PathMoment) (result : Result T ImageFault) →
+held_then : {T : Type 0} {v : Layout} {x : ℕ} (old mid new : WorkMoment) (result : Result T ImageFault) →
     ((b : List ℕ) → KnowsPlaces v old.image.contents old.workspace b → ReadsPartOf v x mid new result) →
     OnOk result (HoldsPlaceThen v x old new)
 held_then old mid new (Ok y) name = λ b p k of. (name b k).held
 held_then old mid new (Err e) name = tt
 
-pub costs_name : {S T : Type 0} {v : Layout} {x p : ℕ} {old new : KeptMoment} {mid : PathMoment} {s : KeptParent} {a : S}
+pub costs_name : {S T : Type 0} {v : Layout} {x p : ℕ} {old new : KeptMoment} {mid : WorkMoment} {s : KeptParent} {a : S}
     {result : Result T ImageFault} → IsParentOf old.at.workspace x p → KeepsPathOf v p old.at mid s (Ok a) →
     (HasPathOf old.kept p → (mid.reads ≡ old.at.reads) × (mid.workspace ≡ old.at.workspace)) →
     ReadsName v x mid new.at result → OnOk result (KeepsParent v new.at.image.contents new.at.workspace new.kept) →
@@ -82,7 +83,7 @@ on_all (Ok x) P h = h
 on_all (Err e) P h = tt
 
 -- its path is read anew, and what was kept stays
-pub costs_none : {T : Type 0} {v : Layout} {x : ℕ} {old new : PathMoment} {result : Result T ImageFault}
+pub costs_none : {T : Type 0} {v : Layout} {x : ℕ} {old new : WorkMoment} {result : Result T ImageFault}
     (s : KeptParent) → ((p : ℕ) → IsParentOf old.workspace x p → ⊥) → KeepsParent v old.image.contents old.workspace s →
     ReadsNames v x old new result → PathCosts v x (record { at = old; kept = s }) (record { at = new; kept = s }) result
 costs_none {result = result} s none right left = record {

@@ -1,12 +1,13 @@
 -- What is kept for the path of the next directory.
 use Rattle.std.specs.Prelude.{◌≡◌, ◌⊎◌, ◌+◌, ◌*◌, ◌<◌, ◌≤◌, ℕ, List, [], ◌∷◌, ◌++◌, Option, Some, Result, OnOk}
 use Rattle.std.specs.Prelude.{slice_index}
+use Rattle.ffs_workspace.specs.Moments.{WorkMoment, work_moment}
 use Rattle.ffs_image.specs.{Device.Device, declared.image.{Image.Ghosts, ImageFault.ImageFault}}
 use Rattle.ffs_volume.specs.{declared.Layout.Layout, Directories.{Graph.Graph, Parents.graph_of, Paths.path_names}}
 use Rattle.ffs_volume.specs.{Directories.Volumes.volume_of, Report.Reads.path_reads, Encodings.Places.place_in}
 use Rattle.ffs_workspace.specs.{declared.workspace.Workspace.Workspace, Ready.CanRead, Holds.{HoldsClaims, HoldsSurvey}}
 use Rattle.ffs_paths.specs.{Climbing.IsParentOf, DirectoryPaths.IsPathOf, Reads.{HoldsPlaceOf, KnowsPlaces, names_to}}
-use Rattle.ffs_paths.specs.{Reads.{OnlyReads, PathMoment, path_moment, ReadsAtMost, ReadsNames}, Slashes.HaveNoSlash}
+use Rattle.ffs_paths.specs.{Reads.{OnlyReads, ReadsAtMost, ReadsNames}, Slashes.HaveNoSlash}
 use Rattle.ffs_paths.specs.{NameTexts.name_bytes, declared.kept_parent.KeptParent.KeptParent}
 
 -- the names down to d are those down to s, and one more
@@ -51,14 +52,14 @@ pub record CanKeepChild (v : Layout) (d : Device) (w : Workspace) (s : KeptParen
 
 -- what a call leaves that makes so many reads at most for a path, where each place is noted; where
 -- it failed, nothing is said here of what is kept of a parent (the clause `still` does)
-pub record PathLeaves {T : Type 0} (v : Layout) (most : ℕ) (old new : PathMoment) (s : KeptParent)
+pub record PathLeaves {T : Type 0} (v : Layout) (most : ℕ) (old new : WorkMoment) (s : KeptParent)
     (result : Result T ImageFault) : Type 0 where
   pub reads : OnlyReads v old.image new.image old.workspace new.workspace result
   pub counted : ReadsAtMost v most old new
   pub kept_parent : OnOk result (KeepsParent v new.image.contents new.workspace s)
 
 -- a call keeps the path of the directory x, as that of the next one's parent
-pub record KeepsPathOf {T : Type 0} (v : Layout) (x : ℕ) (old new : PathMoment) (s : KeptParent)
+pub record KeepsPathOf {T : Type 0} (v : Layout) (x : ℕ) (old new : WorkMoment) (s : KeptParent)
     (result : Result T ImageFault) : Type 0 where
   -- x is the parent that is kept
   pub parent : OnOk result (s.parent ≡ x)
@@ -69,11 +70,11 @@ pub record KeepsPathOf {T : Type 0} (v : Layout) (x : ℕ) (old new : PathMoment
 
 -- a moment of calls for one path after another: what is kept of a parent, too
 pub record KeptMoment : Type 0 where
-  pub at : PathMoment
+  pub at : WorkMoment
   pub kept : KeptParent
 
 abbrev pub kept_moment : {I : Type 0} → Ghosts I → I → Workspace → KeptParent → KeptMoment
-kept_moment I image w s = record { at = path_moment I image w; kept = s }
+kept_moment I image w s = record { at = work_moment I image w; kept = s }
 
 -- the path of the directory d is kept: d is the parent, or the child
 abbrev pub HasPathOf : KeptParent → (d : ℕ) → Type 0
@@ -96,7 +97,7 @@ pub record KeepsChild (w : Workspace) (x : ℕ) (s s' : KeptParent) : Type 0 whe
   pub same : ((p : ℕ) → IsParentOf w x p → ⊥) → s' ≡ s
 
 -- and the window holds the part of the place of x, where it has a parent and each place is noted
-abbrev pub HoldsPlaceThen : Layout → (x : ℕ) → (old new : PathMoment) → Type 0
+abbrev pub HoldsPlaceThen : Layout → (x : ℕ) → (old new : WorkMoment) → Type 0
 HoldsPlaceThen v x old new = (b : List ℕ) (p : ℕ) → KnowsPlaces v old.image.contents old.workspace b
     → IsParentOf old.workspace x p → HoldsPlaceOf v new.workspace x
 

@@ -1,24 +1,13 @@
 -- What a call that only reads the image leaves of a workspace, and how often it reads.
 use Rattle.std.specs.Prelude.{◌≡◌, suc, ◌+◌, ◌*◌, ◌/◌, ◌<◌, ◌≤◌, ℕ, List, Option, Result, Some, true, OnOk, slice_index}
 use Rattle.std.specs.Option.{unwrap_or}
-use Rattle.ffs_image.specs.{Device.{Device, ForContents}, Reads.ReadAfter, declared.image.{Image.Ghosts, ImageFault.ImageFault}}
+use Rattle.ffs_image.specs.{Device.{Device, ForContents}, Reads.ReadAfter, declared.image.ImageFault.ImageFault}
 use Rattle.ffs_volume.specs.declared.{constants.TheConstants.MAXPATHLEN, Layout.Layout}
 use Rattle.ffs_volume.specs.Directories.{Graph.{Graph, level}, Parents.graph_of, Volumes.volume_of}
 use Rattle.ffs_workspace.specs.declared.workspace.Workspace.{Workspace}
 use Rattle.ffs_volume.specs.{Encodings.Places.{AreNoted, IsNoted, part_size, place_in}, Report.DirectoryReads.directory_cost}
-use Rattle.ffs_workspace.specs.{Found.WithSurvey, Ready.CanRead}
+use Rattle.ffs_workspace.specs.{Found.WithSurvey, Moments.WorkMoment, Ready.CanRead}
 use Rattle.ffs_workspace.specs.Holds.{bool_at, HoldsClaims, HoldsSurvey}
-
--- a moment of calls for paths: the image, how often it was read by then, and the workspace
-pub record PathMoment : Type 0 where
-  pub image : Device
-  pub reads : ℕ
-  pub workspace : Workspace
-
--- the moment at which an image and a workspace are these. I is what the image's type gives to contracts: in a
--- contract I.Image
-abbrev pub path_moment : {I : Type 0} → Ghosts I → I → Workspace → PathMoment
-path_moment I image w = record { image = I.device image; reads = I.reads image; workspace = w }
 
 -- the inode x can be read: the windows hold what the image gives, and its number is one of the volume
 pub record CanReadFor (v : Layout) (d : Device) (w : Workspace) (x : ℕ) : Type 0 where
@@ -52,7 +41,7 @@ pub record ReadsFew (most reads reads' : ℕ) (before after : Workspace) : Type 
   pub blocks : after.windows.blocks ≡ before.windows.blocks
 
 -- a call that makes so many reads at most leaves all of the workspace but its windows
-pub record OnlyReadsFew {T : Type 0} (v : Layout) (most : ℕ) (old new : PathMoment) (result : Result T ImageFault) :
+pub record OnlyReadsFew {T : Type 0} (v : Layout) (most : ℕ) (old new : WorkMoment) (result : Result T ImageFault) :
     Type 0 where
   pub reads : OnlyReads v old.image new.image old.workspace new.workspace result
   pub counted : ReadsFew most old.reads new.reads old.workspace new.workspace
@@ -63,7 +52,7 @@ HoldsPlaceOf v w x = (k : ℕ) → place_in (slice_index w.queue.items x) ≡ su
     → (w.windows.other.place ≡ part_size v * k) × (w.windows.other.length ≡ part_size v)
 
 -- the part with the place of x is read once at most, and not where the window holds it; then it holds it
-pub record ReadsPartOf {T : Type 0} (v : Layout) (x : ℕ) (old new : PathMoment) (result : Result T ImageFault) :
+pub record ReadsPartOf {T : Type 0} (v : Layout) (x : ℕ) (old new : WorkMoment) (result : Result T ImageFault) :
     Type 0 where
   pub few : ReadsFew 1 old.reads new.reads old.workspace new.workspace
   pub again : HoldsPlaceOf v old.workspace x → new.reads ≤ old.reads
@@ -71,7 +60,7 @@ pub record ReadsPartOf {T : Type 0} (v : Layout) (x : ℕ) (old new : PathMoment
 
 -- a call for the place of x makes one read at most, and none where the window holds its part; where the
 -- place is one, the window holds it then
-pub record ReadsPlace {T : Type 0} (v : Layout) (x : ℕ) (old new : PathMoment) (result : Result T ImageFault) :
+pub record ReadsPlace {T : Type 0} (v : Layout) (x : ℕ) (old new : WorkMoment) (result : Result T ImageFault) :
     Type 0 where
   pub reads : OnlyReads v old.image new.image old.workspace new.workspace result
   pub counted : ReadsFew 1 old.reads new.reads old.workspace new.workspace
@@ -80,7 +69,7 @@ pub record ReadsPlace {T : Type 0} (v : Layout) (x : ℕ) (old new : PathMoment)
       (λ b. IsNoted v b old.workspace.queue.items x → OnOk result (HoldsPlaceOf v new.workspace x))
 
 -- a call for the name of the directory x reads the part of its place alone, where that is noted
-pub record ReadsName {T : Type 0} (v : Layout) (x : ℕ) (old new : PathMoment) (result : Result T ImageFault) :
+pub record ReadsName {T : Type 0} (v : Layout) (x : ℕ) (old new : WorkMoment) (result : Result T ImageFault) :
     Type 0 where
   pub reads : OnlyReads v old.image new.image old.workspace new.workspace result
   pub counted : ForContents old.image.contents
@@ -95,7 +84,7 @@ pub record KnowsPlaces (v : Layout) (contents : Option (List ℕ)) (w : Workspac
   pub places : AreNoted v b w.queue.items
 
 -- so many reads were made at most, where each place is noted
-abbrev pub ReadsAtMost : Layout → (most : ℕ) → (old new : PathMoment) → Type 0
+abbrev pub ReadsAtMost : Layout → (most : ℕ) → (old new : WorkMoment) → Type 0
 ReadsAtMost v most old new = (b : List ℕ) → KnowsPlaces v old.image.contents old.workspace b
     → ReadsFew most old.reads new.reads old.workspace new.workspace
 
@@ -115,7 +104,7 @@ EachTakesAtMost n v b = (d : ℕ) → directory_cost v b d ≤ n
 -- a call for the path of the directory x leaves all of the workspace but its windows. Where each place is
 -- noted, it makes a read at most for each name of that path, and no more than the way up takes. Where some
 -- aren't, for each name it may read all of the directory that has it, too
-pub record ReadsNames {T : Type 0} (v : Layout) (x : ℕ) (old new : PathMoment) (result : Result T ImageFault) :
+pub record ReadsNames {T : Type 0} (v : Layout) (x : ℕ) (old new : WorkMoment) (result : Result T ImageFault) :
     Type 0 where
   pub reads : OnlyReads v old.image new.image old.workspace new.workspace result
   pub counted : ReadsAtMost v climb_reads old new

@@ -1,9 +1,10 @@
 //! The path of a directory's parent, kept for the directory that comes next.
 
 ghost use Rattle.std.specs.Prelude.{◌≡◌, ◌↔◌, ◌<◌, ℕ, List, Option, Some, IfOk, OnOk, OnErr, min, vec_len};
+ghost use Rattle.ffs_workspace.specs.Moments.{work_moment};
 ghost use Rattle.ffs_volume.specs.{declared.Layout.Layout, Directories.Paths.dir_path};
 ghost use Rattle.ffs_workspace.specs.declared.workspace.Workspace.{Workspace as WorkspaceIn};
-ghost use Rattle.ffs_paths.specs.{Climbing.IsParentOf, DirectoryPaths.IsPathOf, Reads.{ForTree, path_moment}};
+ghost use Rattle.ffs_paths.specs.{Climbing.IsParentOf, DirectoryPaths.IsPathOf, Reads.{ForTree}};
 ghost use Rattle.ffs_paths.specs.KeptParents.{CanKeepChild, HasPathOf, KeepsParent, KeepsPathOf, kept_moment};
 ghost use Rattle.ffs_paths.specs.KeptParents.{PathCosts, ReadyToPath};
 
@@ -75,8 +76,8 @@ impl KeptParent {
         requires { ReadyToPath geometry.now.layout (I.device image.old) workspace.old self.old
             dir }
         ensures keeps { KeepsPathOf geometry.now.layout dir
-            (path_moment I.Image image.old workspace.old)
-            (path_moment I.Image image.new workspace.new) self.new result }
+            (work_moment I.Image image.old workspace.old)
+            (work_moment I.Image image.new workspace.new) self.new result }
         ensures same { HasPathOf self.old dir
             → (image.new ≡ image.old) × (workspace.new ≡ workspace.old) }
         ensures still { OnErr result (KeepsParent geometry.now.layout

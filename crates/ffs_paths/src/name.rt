@@ -1,6 +1,7 @@
 //! The name of a directory in its parent.
 
 ghost use Rattle.std.specs.Prelude.{◌≡◌, ◌==◌, ◌+◌, ◌≤◌, ◌&&◌, ◌/◌, false, true, max, IfOk, OnOk, length};
+ghost use Rattle.ffs_workspace.specs.Moments.{work_moment};
 ghost use Rattle.ffs_image.specs.Known.{ForBytes};
 ghost use Rattle.ffs_volume.specs.Directories.{Entries.entries_of, Roles.{is_dir, is_plain, role_of, roled_from}};
 ghost use Rattle.ffs_volume.specs.{Directories.Volumes.volume_of, Encodings.Places.entries_in_chunks};
@@ -8,7 +9,7 @@ ghost use Rattle.ffs_volume.specs.{declared.constants.TheConstants.DIRBLKSIZ, Re
 ghost use Rattle.ffs_layout.specs.Entry.{entry_value};
 ghost use Rattle.ffs_workspace.specs.Found.{WithClaims};
 ghost use Rattle.ffs_paths.specs.{Climbing.{FindsFirstName, FindsName, FindsNoted, IsNameIn}, NameTexts.name_bytes};
-ghost use Rattle.ffs_paths.specs.Reads.{ForTree, CanReadFor, OnlyReads, path_moment, ReadsName, ReadsPlace};
+ghost use Rattle.ffs_paths.specs.Reads.{ForTree, CanReadFor, OnlyReads, ReadsName, ReadsPlace};
 
 use crate::name_text::NameText;
 use ffs_image::{Image, ImageFault};
@@ -83,7 +84,7 @@ fn find_by_place<I: Image>(
     ensures finds { IfOk result (FindsNoted geometry.now.layout (I.device image.old) workspace.old
         dir (name_bytes name.new)) }
     ensures leaves { ReadsPlace geometry.now.layout dir
-        (path_moment I.Image image.old workspace.old) (path_moment I.Image image.new workspace.new)
+        (work_moment I.Image image.old workspace.old) (work_moment I.Image image.new workspace.new)
         result }
 {
     let Some(part) = noted_part(workspace.queue[dir as usize]) else {
@@ -162,7 +163,7 @@ pub fn find_name<I: Image>(
     ensures finds { OnOk result (FindsName geometry.now.layout (I.device image.old) workspace.old
         dir parent (name_bytes name.new)) }
     ensures leaves { ReadsName geometry.now.layout dir
-        (path_moment I.Image image.old workspace.old) (path_moment I.Image image.new workspace.new)
+        (work_moment I.Image image.old workspace.old) (work_moment I.Image image.new workspace.new)
         result }
     ensures counted { ForBytes (WithClaims geometry.now.layout (I.device image.old) workspace.old)
         (λ b. is_dir (volume_of geometry.now.layout b) parent ≡ true

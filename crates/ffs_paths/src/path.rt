@@ -1,10 +1,11 @@
 //! The path of a directory, for all lines on it and on its entries.
 
 ghost use Rattle.std.specs.Prelude.{◌≡◌, ◌<◌, ◌≤◌, ℕ, List, [], ◌∷◌, ◌++◌, length, vec_len, Some, option_map, IfOk, OnErr, OnOk};
+ghost use Rattle.ffs_workspace.specs.Moments.{work_moment};
 ghost use Rattle.ffs_volume.specs.Directories.{Graph.{Graph, level}, Paths.{dir_path, entry_path, names_down}};
 ghost use Rattle.ffs_workspace.specs.Holds.{bool_at};
 ghost use Rattle.ffs_paths.specs.{Buffers.HoldsNames, Climbing.{in_room, path_in}, DirectoryPaths.{HoldsPath, IsPathOf}};
-ghost use Rattle.ffs_paths.specs.{Reads.{CanClimb, ForTree, CanReadFor, path_moment, ReadsNames}, Slashes.HaveNoSlash};
+ghost use Rattle.ffs_paths.specs.{Reads.{CanClimb, ForTree, CanReadFor, ReadsNames}, Slashes.HaveNoSlash};
 ghost use Rattle.ffs_volume.specs.declared.constants.TheConstants.{DIRBLKSIZ};
 
 use crate::buffer::{LONGEST_NAME, PathBuffer, PathText};
@@ -98,7 +99,7 @@ fn climb<I: Image>(
         (ForTree geometry.now.layout (I.device image.old) workspace.old (λ g.
         (k : ℕ) → level g dir ≡ Some k → HoldsNames path.new (names_down g k dir))) }
     ensures leaves { ReadsNames geometry.now.layout dir
-        (path_moment I.Image image.old workspace.old) (path_moment I.Image image.new workspace.new)
+        (work_moment I.Image image.old workspace.old) (work_moment I.Image image.new workspace.new)
         result }
 {
     // How many inodes there are: no way up has more steps. Each list of the workspace has this
@@ -140,7 +141,7 @@ pub fn put_directory<I: Image>(
     ensures path { OnOk result (ForTree geometry.now.layout (I.device image.old) workspace.old
         (λ g. IsPathOf g dir path.new)) }
     ensures leaves { ReadsNames geometry.now.layout dir
-        (path_moment I.Image image.old workspace.old) (path_moment I.Image image.new workspace.new)
+        (work_moment I.Image image.old workspace.old) (work_moment I.Image image.new workspace.new)
         result }
 {
     path.reached = is_reached(workspace, dir);
@@ -164,7 +165,7 @@ pub fn directory_path<I: Image>(
     ensures path { IfOk result (λ path.
         ForTree geometry.now.layout (I.device image.old) workspace.old (λ g. IsPathOf g dir path)) }
     ensures leaves { ReadsNames geometry.now.layout dir
-        (path_moment I.Image image.old workspace.old) (path_moment I.Image image.new workspace.new)
+        (work_moment I.Image image.old workspace.old) (work_moment I.Image image.new workspace.new)
         result }
 {
     let mut path = DirectoryPath {
@@ -196,7 +197,7 @@ pub fn path_of<I: Image>(
         (λ g. text.new.items ≡ path_in g dir (option_map (λ n. n.now) name.entry))) }
     ensures untouched { OnErr result (text.new ≡ text.old) }
     ensures leaves { ReadsNames geometry.now.layout dir
-        (path_moment I.Image image.old workspace.old) (path_moment I.Image image.new workspace.new)
+        (work_moment I.Image image.old workspace.old) (work_moment I.Image image.new workspace.new)
         result }
 {
     let path = directory_path(geometry, image, workspace, dir)?;

@@ -35,7 +35,7 @@
 --   CutLaws          the cut of an inode fits 32 bits, and says which of its steps are kept
 --   LinkLaws         what a count of references says of an inode's links
 --
--- Numbers, tests and results: Below, SearchLaws, Pigeon, Booleans, Results.
+-- Numbers, tests, flags and results: Below, SearchLaws, Pigeon, Booleans, Flags, Results.
 --
 -- Statements of src/laws.rt: LawsHold; OpeningExamples, BlockExamples and DirectoryExamples, by computation.
 pub mod Longest
@@ -72,5 +72,6 @@ pub mod OwnerLaws
 pub mod Silence
 pub mod VerdictLaws
 pub mod Booleans
+pub mod Flags
 pub mod RoleLaws
 pub mod Results

@@ -1,6 +1,11 @@
--- What holds where a result is `Ok`.
-use Rattle.std.proofs.{Common.Result, Common.OnOk, lemmas.Result.on_ok_weaker}
+-- What holds of the answers of a result.
+use Rattle.std.proofs.{Common.{Result, Ok, Err}, Common.OnOk, lemmas.Result.on_ok_weaker}
 
 -- what follows from a fact of an Ok answer
 pub on_ok : {T E : Type 0} (r : Result T E) (P Q : Type 0) → (P → Q) → OnOk r P → OnOk r Q
 on_ok r P Q f h = on_ok_weaker r f h
+
+-- a fact of every answer
+pub on_any : {T E P : Type 0} (r : Result T E) → P → OnOk r P
+on_any (Ok x) p = p
+on_any (Err e) p = tt

@@ -3,6 +3,7 @@
 -- them after the folder `Encodings`.
 pub mod Opening
 pub mod Whole
+pub mod Headings
 pub mod Memory
 pub mod Reads
 pub mod DirectoryReads

@@ -5,7 +5,7 @@ use Rattle.ffs_report.{proofs.Reporting.{reads_first, reports_same}}
 use Rattle.ffs_workspace.{specs.{Holds.claims_of, Tables.TakesPiece}}
 use Rattle.ffs_claims.proofs.Frames.{stay}
 use Rattle.ffs_claims.{proofs.Inodes.{steps_rise, used_below}}
-use Rattle.ffs_claims.proofs.TableReads.{on_any}
+use Rattle.ffs_volume.proofs.Results.{on_any}
 use Rattle.ffs_claims.proofs.claim.claim_inode.Goals as goal
 
 pub claim_read_inode-requires : goal.claim_read_inode-requires

@@ -1,6 +1,7 @@
 use Rattle.std.proofs.{Common.{inl, inr, arith, refl, rules}, lemmas.Result.{on_ok_weaker, on_err_weaker}}
 use Rattle.ffs_report.{proofs.Reports.said_none, specs.Progress.progress}
-use Rattle.ffs_claims.proofs.{Frames.reports_none, Reportings.{part_from, reported_from, reported_none}, TableReads.on_any}
+use Rattle.ffs_claims.proofs.{Frames.reports_none, Reportings.{part_from, reported_from, reported_none}}
+use Rattle.ffs_volume.proofs.Results.{on_any}
 use Rattle.ffs_claims.proofs.pass1b.report_step.Goals as goal
 
 pub returns-in-Run : goal.returns-in-Run

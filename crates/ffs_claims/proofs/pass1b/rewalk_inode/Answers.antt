@@ -3,7 +3,8 @@ use Rattle.ffs_volume.specs.Blocks.Steps.{steps_of}
 use Rattle.ffs_volume.specs.Encodings.Replay.{fresh_replay}
 use Rattle.ffs_report.proofs.Reporting.{reads_first}
 use Rattle.ffs_workspace.specs.Tables.{TakesPiece}
-use Rattle.ffs_claims.{proofs.{Reportings.part_none, TableReads.on_any}, specs.RescanRuns.{indirect_again, noted_cut}}
+use Rattle.ffs_claims.{proofs.{Reportings.part_none}, specs.RescanRuns.{indirect_again, noted_cut}}
+use Rattle.ffs_volume.proofs.Results.{on_any}
 use Rattle.ffs_claims.proofs.pass1b.rewalk_inode.Goals as goal
 
 pub rewalk-requires : goal.rewalk-requires

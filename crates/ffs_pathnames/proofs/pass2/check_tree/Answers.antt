@@ -1,12 +1,13 @@
 use Rattle.std.proofs.Common.{◌≡◌, ◌≤◌, ◌++◌, ◌+◌, ◌*◌, Bool, slice_index, [], List, ℕ, map, refl, ap, sym, ◌∙◌, append-nil}
 use Rattle.std.proofs.Common.{true, false, arith, length, Result, Err, inl, inr, ◌∷◌, ◌==◌}
 use Rattle.std.proofs.lemmas.{Result.err_from_is_err_and, Bool.{both_ways, cases_Bool}}
+use Rattle.ffs_workspace.specs.Moments.{WorkMoment}
 use Rattle.ffs_workspace.specs.{Holds.HoldsClaims, Ready.CanRead, declared.workspace.Workspace.Workspace}
 use Rattle.ffs_pathnames.proofs.Findings.{findings_kept}
 use Rattle.ffs_pathnames.{specs.Before.{IsBefore, root_reported}, proofs.{LineCounts.lines_long, Carrying.goes_is}}
 use Rattle.ffs_pathnames.proofs.Carrying.{root_kind_is, root_marked_is, tree_is, tree_lines}
 use Rattle.ffs_pathnames.proofs.pass2.check_tree.{Given.Over, Goals.{After-report_root, After-check_directories}}
-use Rattle.ffs_pathnames.specs.{DirectoryLines.ReportsTree, Moments.PathMoment, RootAnswers.AnswersRoot}
+use Rattle.ffs_pathnames.specs.{DirectoryLines.ReportsTree, RootAnswers.AnswersRoot}
 use Rattle.ffs_pathnames.{proofs.Begun.image_same, specs.{declared.pass2.Root.Root, ChecksNeeded.ChecksLookedAt}}
 use Rattle.ffs_volume.specs.Report.DirectoryReads.{directories_cost, looks_cost, places_cost}
 use Rattle.ffs_volume.specs.{Encodings.Kinds.is_dir_kind, Directories.{Roles.Volume, Volumes.volume_of}}
@@ -91,7 +92,7 @@ looks_few g c b is k checks =
 only_said : {T : Type 0} {v : Layout} {d : Device} {w : Workspace} {lines : Volume → List TreeMessage}
     {said said' : Progress} {count : ℕ} (r : Result T RunFault) → ImageAfter d d r → CanRead v d w →
     PhaseReports (IsBefore v d.contents w 2) (λ b. map of_tree (lines (volume_of v b))) said said' r →
-    let at : PathMoment = record { image = d; reads = count; workspace = w } in
+    let at : WorkMoment = record { image = d; reads = count; workspace = w } in
     ReportsTree v lines (record { at = at; said = said; kept = tt }) (record { at = at; said = said'; kept = tt }) r
 only_said {w = w} r image ready text = let kept = findings_kept w in grind (arith, paid_text)
 
