@@ -24,12 +24,13 @@
 --   RunEnds        of a run of a program, and not of a check: for `fsck_ffs` it has an IsChecked (`Fsck`), and so a
 --                  Headline
 --
--- The check: `Moment`, `Ends`, `Headings` and `Headline` are the first clause. `Failures` says how many reads and writes
--- failed, `Taken` what is taken of the memory, `Reads` how often the image is read, and `Costs` the last two of any image.
+-- The check: `Moment`, `Ends`, `Headings` and `Headline` are the first clause. `Failures` says how many reads and
+-- writes failed, `Taken` what is taken of the memory, `Reads` how often the image is read, and `Costs` the last two of
+-- any image.
 --
--- Its parts: `Opening` is about the text before the phases; `Phases` has what phase 1b leaves
--- and reads, and what a workspace answers after a check; `PhaseEnds` is about all phases, and about what follows an
--- accepted superblock (FollowsAccepted of `check_accepted`).
+-- Its parts: `Opening` is about the text before the phases; `Phases` has what phase 1b leaves and reads, and what a
+-- workspace answers after a check; `PhaseEnds` is about all phases, and about what follows an accepted superblock
+-- (FollowsAccepted of `check_accepted`).
 --
 -- The programs: `Program` is what a program says of itself, `CommandWords` what its words ask for, `Refusals` what is
 -- written where they are wrong, `Run` how a run of any program ends, and `Fsck` what `fsck_ffs` says of itself.

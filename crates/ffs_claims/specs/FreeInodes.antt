@@ -24,13 +24,13 @@ pub record IsFreeInode (t : Table) (x : ℕ) : Type 0 where
   pub held : HoldsInode t x
   pub free : is_free_by (inode_bytes t x) ≡ true
 
--- from a number on and before another one, at most `end`, are such inodes alone
+-- each inode from a number on and before another one, which is at most `end`, is such an inode
 pub record EndsFreeInodes (t : Table) (number end next : ℕ) : Type 0 where
   pub low : number ≤ next
   pub high : next ≤ end
   pub free : (x : ℕ) → number ≤ x → x < next → IsFreeInode t x
 
--- no such inode is at a number: it is `end`, the window doesn't hold the inode, or that isn't free by its bytes
+-- no such inode is at a number: it is `end`, or its inode isn't held by the window, or isn't free by its bytes
 abbrev pub IsPastFreeInodes : Table → (end next : ℕ) → Type 0
 IsPastFreeInodes t end next = next < end → HoldsInode t next → is_free_by (inode_bytes t next) ≡ false
 
@@ -41,8 +41,9 @@ pub record CanPassFreeInodes (w : Workspace) (number end : ℕ) : Type 0 where
   pub order : number ≤ end
   pub before : number ≤ vec_len w.kinds
 
--- the free inodes from a number on and before another one are passed over, after a free or Partial inode all
--- that come next. Where there is one, the counts of the current inode are 0 then; else nothing has changed
+-- the free inodes from a number on and before another one are passed over: all that come next, where the inode
+-- before them is free or Partial. If there is one, the counts of the current inode are 0 then; else nothing has
+-- changed
 pub record PassesFreeInodes (old new : Workspace) (number end next : ℕ) : Type 0 where
   pub ends : EndsFreeInodes old.windows.table number end next
   pub all : slice_index old.kinds.items (number - 1) ≡ 0 → IsPastFreeInodes old.windows.table end next

@@ -1,7 +1,9 @@
 -- What the contracts of phases 1 and 1b cite, in the order to read it: each file rests on those before it. Who only
--- wants to know what the phases promise begins at the end, with `Phases`. `phase1` leaves IsLeftByPhase1, or where it
--- fails IsCutInPhase1, reads as Phase1Reads says and lets stay what Phase1Keeps says; of `phase1b` IsLeftByPhase1b,
--- GoesOverOffers, Phase1bReads and Phase1bKeeps (`Reporting`) say it, and rescan_messages what a second call says.
+-- wants to know what the phases promise begins at the end, with `Phases`:
+--
+--   phase1     IsLeftByPhase1, or IsCutInPhase1 where it fails; Phase1Reads; Phase1Keeps, what stays as it was
+--   phase1b    IsLeftByPhase1b; GoesOverOffers, also where it fails; Phase1bReads; Phase1bKeeps (in the file
+--              `Reporting`), what stays; rescan_messages, what a second call says
 --
 -- For both phases: `Moments` has the values that calls change, `Lines` the lines as messages of a report, `Leaves`
 -- what calls need of a workspace and leave of it as it was.

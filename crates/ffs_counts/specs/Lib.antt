@@ -1,6 +1,6 @@
 -- What the contracts of phases 4 and 5 and of the summary cite, in the order to read it. The clauses of `phase4` and
 -- `phase5` are those of each phase (PhaseReports of ffs_report, IsReady of ffs_workspace); that of `summary` is
--- SaysSummary (`Summary`). The files are of the functions below them:
+-- SaysSummary (`Summary`). Each file, and the function that it is for:
 --
 -- Phase 4: `Ready` is what the check of references needs, and which inodes aren't allocated; `References` is what is
 -- reported of an inode (`line_for`); `Passed` is which inodes are passed over (`passed_from`).

@@ -8,8 +8,8 @@
 --   find_inode             Finds
 --   find_owner             Finds, where phase 1 was run (WithOwners of `Claims`); of its parts FindsAllKeepers and
 --                          FindsKeeper (`Keepers`)
---   find_lost              FindsAny (`Outcome`), where phase 1 was run (WithOwners of `Claims`); of its parts FindsWrong
---                          (`LostMaps`)
+--   find_lost              FindsAny (`Outcome`), where phase 1 was run (WithOwners of `Claims`); of its parts
+--                          FindsWrong (`LostMaps`)
 --   find_wrong_fields      FindsAny, where a superblock is accepted (WithSuper of `Fields`)
 --
 -- `Outcome` says what a command leaves of image and output, by its answer. A file for each command follows, but for

@@ -17,8 +17,9 @@
 -- Its second reading: `NextChunks` is about one chunk after another, `SaysTreeMessages` about saying a line,
 -- `EntryLines` about the lines of entries.
 --
--- The phase: `ChecksNeeded` says which directories are checked, `DirectoryLines` what their check reports and
--- reads, `RootAnswers` whether the check continues after the root, `Phase2` what the phase leaves and reads.
+-- The phase: `ChecksNeeded` says which directories are checked, `Tasks` what each call is asked to say of a
+-- directory, `DirectoryLines` that it says this, and how often it reads for it, `RootAnswers` whether the check
+-- continues after the root, `Phase2` what the phase leaves and reads.
 pub mod Stamps
 pub mod PassedNames
 pub mod Silent

@@ -1,5 +1,5 @@
--- Moments of the check of directories. Where no line is printed that of `ffs_workspace` serves: `WorkMoment` (the
--- image, how often it was read by then, and the workspace).
+-- Moments of the check of directories. Where no line is printed, it is `WorkMoment` of `ffs_workspace`: the image, how
+-- often it was read by then, and the workspace.
 use Rattle.std.specs.Prelude.{ℕ}
 use Rattle.ffs_workspace.specs.Moments.{WorkMoment, work_moment}
 use Rattle.ffs_image.specs.Device.{Device}

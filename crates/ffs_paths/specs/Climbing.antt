@@ -9,24 +9,25 @@ use Rattle.ffs_volume.specs.Encodings.Places.{IsNoted}
 use Rattle.ffs_paths.specs.Reads.{ForTree}
 pub use Rattle.ffs_volume.specs.Encodings.Places.{name_in}
 
--- it is the name of the directory d in its parent p: that of the first plain entry there that names
--- it, if there is one
+-- this is the name of the directory d in its parent p: that of the first plain entry there that names
+-- d, if there is one
 abbrev pub IsNameIn : Graph → (d p : ℕ) → List ℕ → Type 0
 IsNameIn g d p name = parent g d ≡ Some p → g.is_dir p ≡ true → name ≡ name_in d (g.entries p)
 
--- whether an entry names the inode d: the text is then the name of the first one, and has a byte
+-- the answer is whether an entry names the inode d. The text is then the name of the first one that does, and isn't
+-- empty
 pub record FindsFirstName (d : ℕ) (entries : List RoledEntry) (text : List ℕ) (result : Bool) : Type 0 where
   pub name : result ≡ true → text ≡ name_in d entries
   pub some : result ≡ true → 0 < length text
   pub found : list_any (is_naming_entry d) entries ≡ true → result ≡ true
 
--- whether the directory d is named where its place is noted: the text is then its name in its parent
+-- the answer is whether the directory d is named where its place is noted. The text is then its name in its parent
 pub record FindsNoted (v : Layout) (dev : Device) (w : Workspace) (d : ℕ) (text : List ℕ) (result : Bool) : Type 0 where
   pub name : result ≡ true → ForTree v dev w (λ g. (p : ℕ) → IsNameIn g d p text)
   pub some : result ≡ true → 0 < length text
   pub found : ForContents dev.contents (λ b. IsNoted v b w.queue.items d → result ≡ true)
 
--- the text is the name of the directory d in its parent p, and has a byte where its place is noted
+-- the text is the name of the directory d in its parent p, and isn't empty where its place is noted
 pub record FindsName (v : Layout) (dev : Device) (w : Workspace) (d p : ℕ) (text : List ℕ) : Type 0 where
   pub name : ForTree v dev w (λ g. IsNameIn g d p text)
   pub some : ForContents dev.contents (λ b. IsNoted v b w.queue.items d → 0 < length text)

@@ -1,4 +1,4 @@
--- What the path of a directory holds that is kept.
+-- What a `DirectoryPath` holds.
 use Rattle.std.specs.Prelude.{◌≡◌, ℕ, true, false, List, Option, Some, None}
 use Rattle.ffs_volume.specs.Directories.{Graph.Graph, Paths.path_names}
 use Rattle.ffs_paths.specs.{Buffers.HoldsNames, Slashes.HaveNoSlash, declared.path.DirectoryPath.DirectoryPath}

@@ -176,11 +176,11 @@ abbrev pub is_bad_whiteout : Entry → Bool
 is_bad_whiteout e =
     ((e.number == WINO) && not (e.kind == DT_WHT)) || ((e.kind == DT_WHT) && not (e.number == WINO))
 
--- x is a suspect other than the root; `first_naming` says that no plain entry before this one names it
+-- x is a suspect other than the root, and no plain entry before this one names it (`first_naming`)
 abbrev pub is_first_of_suspect : (vol : Volume) (first_naming : Bool) (x : ℕ) → Bool
 is_first_of_suspect vol first_naming x = is_suspect vol x && (not (x == ROOTINO) && first_naming)
 
--- x is a directory; `parent_entry` says that this entry, which names it, is its parent entry
+-- x is a directory, and this entry, which names it, isn't its parent entry (`parent_entry` says whether it is)
 abbrev pub is_extraneous : (vol : Volume) (parent_entry : Bool) (x : ℕ) → Bool
 is_extraneous vol parent_entry x = is_dir vol x && not parent_entry
 

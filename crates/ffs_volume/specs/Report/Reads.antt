@@ -26,8 +26,8 @@ sweep_reads v = v.ncg * v.ipg + runs_limit v
 abbrev pub path_reads : ℕ
 path_reads = MAXPATHLEN / 2 + 2
 
--- for a message of phase 2 are read the path of the directory that it is about, that of the
--- directory that an entry names, and an inode
+-- a message of phase 2 takes the reads for two paths, that of the directory that it is about and that
+-- of the directory that an entry names, and the read of an inode
 abbrev pub line_reads : ℕ
 line_reads = 2 * path_reads + 1
 
