@@ -45,7 +45,7 @@ fn is_free_inode(table: &Table, number: u32) -> bool
 
 /// The first number from `number` on, below `end`, of an inode that the window doesn't hold or that
 /// isn't free, and `end` where there is none. What the window holds is asked once. It isn't
-/// inlined: beside the claims of a used inode its loop took registers from these.
+/// inlined: its loop would take registers from the claims of a used inode.
 #[inline(never)]
 fn free_inodes_end(table: &Table, number: u32, end: u32) -> u32
     requires inodes { HasTableInodes table.now }

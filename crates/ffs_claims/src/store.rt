@@ -11,7 +11,8 @@ use ffs_volume::constants::{DT_DIR, EMPTY_DIR_KIND, MAXDUP, UNKNOWN_KIND};
 use ffs_volume::{Class, Inode};
 use ffs_workspace::{Workspace, links_start, note_of};
 
-/// Sets the counts of the current inode to 0, and lets no Tail of it be kept: so the next inode begins.
+/// Sets the counts of the current inode to 0, and that no Tail of it was seen: so the next inode
+/// begins.
 pub fn clear_counts(workspace: &mut Workspace)
     ensures { workspace.new
         ≡ record workspace.old { bad = 0; dup_offers = 0; kept = 0; tail = false } }

@@ -58,7 +58,7 @@ impl RunCounts {
     }
 }
 
-/// Claims what an address of a block of data offers: nothing where it is a gap, else its Run of
+/// Claims what an address of a block of data offers: nothing where it is 0 (a Gap), else its Run of
 /// `len` fragments, where that lies in the area, and its fragments are all unused and lie in one
 /// word of the map. Returns whether it was so: if not, nothing has changed. The counts are below
 /// 2^63 before, so that they stay below 2^64.

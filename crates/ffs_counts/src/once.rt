@@ -36,6 +36,7 @@ impl AlreadyReported {
         }
     }
 
+    /// Whether this message comes once, and was reported.
     fn is_reported(&self, message: BlockMessage) -> bool
         ensures { result ≡ is_reported (reported_of self.now) message }
     {
@@ -47,6 +48,7 @@ impl AlreadyReported {
         }
     }
 
+    /// Notes that this message was reported, if it comes once.
     fn note_reported(&mut self, message: BlockMessage)
         ensures { reported_of self.new ≡ note_reported (reported_of self.old) message }
     {

@@ -82,7 +82,7 @@ fn tenths_of(frags: i32, dsize: u32) -> i64
 fn summary_line(superblock: &Super, files: u32, claimed: u32) -> Line<'static>
     ensures { message_of result ≡ summary_of (superblock_in superblock.now) files claimed }
 {
-    // The totals are of directories, free blocks, free inodes and free fragments (fs(5)).
+    // The totals are of directories, free blocks, free inodes and loose fragments (fs(5)).
     let [_, blocks, _, frags] = superblock.cstotal;
     let layout = &superblock.geometry.layout;
     Line::Summary {

@@ -15,7 +15,7 @@ pub struct Totals {
     pub blocks: u64,
     /// Free inodes.
     pub inodes: u64,
-    /// Free fragments in other blocks.
+    /// Loose fragments: the free ones of other blocks.
     pub fragments: u64,
 }
 
@@ -54,7 +54,7 @@ impl Totals {
         self.fragments += u64::from(summary.fragments);
     }
 
-    /// Whether a superblock has these totals: directories, free blocks, free inodes, free
+    /// Whether a superblock has these totals: directories, free blocks, free inodes, loose
     /// fragments.
     pub fn agree_with(&self, found: &[i32; 4]) -> bool
         ensures { result ≡ has_totals found.now (total_of self.now) }

@@ -279,8 +279,8 @@ pub fn note_places<I: Image>(
     let mut limited = LimitedImage::new(image, sweep_reads(geometry));
     let noted = note_places_unlimited(geometry, &mut limited, workspace);
     if limited.is_spent() {
-        // See `LimitedImage`: bytes that stay never ask for so many reads. By their words some
-        // directories may still be to be read.
+        // See `LimitedImage`: bytes that stay never ask for so many reads. The words of some
+        // directories may still have the bit that says that their chunks are to be read.
         workspace.queue.fill(0);
         return Ok(());
     }

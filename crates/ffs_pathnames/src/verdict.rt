@@ -163,9 +163,9 @@ pub fn is_harmless(inodes: &Inodes<'_>, flags: &FilledList<bool>, entry: &Entry<
     }
 }
 
-/// Passes a plain entry of `dir`. The inode that it names is flagged, if it is suspect (the flag of
-/// any other says that it is calm). If it is stamped by `dir`, its parent entry isn't due any more:
-/// its word says so, and keeps its place.
+/// Passes an entry of `dir`, which changes nothing unless it is plain. The inode that it names is
+/// flagged, if it is suspect (the flag of any other says that it is calm). If it is stamped by
+/// `dir`, its parent entry isn't due any more: its word says so, and keeps its place.
 pub fn pass(
     inodes: &Inodes<'_>,
     dir: u32,

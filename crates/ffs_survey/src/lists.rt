@@ -31,8 +31,8 @@ pub struct FoundLists<'a> {
     pub queue: &'a mut FilledList<u32>,
 }
 
-/// The lists of a survey, lent together: it goes by the first two, and fills the others. There are
-/// more than two inodes, and fewer than 2^31.
+/// The lists of a survey, lent together: it goes by `kinds`, `marked` and `any_marked`, and fills
+/// the others. There are more than two inodes, and fewer than 2^31.
 #[derive(Drop)]
 pub struct Lists<'kinds, 'marked, 'lists> {
     /// What each inode is (`Kind` of `ffs_volume`).

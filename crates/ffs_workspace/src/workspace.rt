@@ -94,7 +94,7 @@ pub struct Workspace {
     pub dup_offers: u32,
     /// How many offers the current inode keeps so far, bad and dup ones among them.
     pub kept: u64,
-    /// Whether a Tail of the current inode is kept.
+    /// Whether a Tail of the current inode was seen.
     pub tail: bool,
     /// The buffers that the image is read into.
     pub windows: Windows,
