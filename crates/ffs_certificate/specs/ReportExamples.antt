@@ -15,7 +15,7 @@ use Rattle.ffs_volume.specs.Messages.Kinds.{of_entry, of_directory}
 use Rattle.ffs_volume.specs.Messages.Kinds.{of_reference}
 
 -- an inode of this mode, count of links and size, with its first address
-unfoldable pub dinode_bytes : Order → ℕ → ℕ → ℕ → ℕ → List ℕ
+unfoldable pub dinode_bytes : Order → (mode nlink size address : ℕ) → List ℕ
 dinode_bytes o mode nlink size address =
     bytes_in o 2 mode ++ (bytes_in o 2 nlink ++ (zero_bytes 4 ++ (bytes_in o 8 size
     ++ (zero_bytes 24 ++ (word o address ++ (zero_bytes 60 ++ (word o 2 ++ zero_bytes 20)))))))

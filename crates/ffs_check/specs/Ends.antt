@@ -33,5 +33,5 @@ pub record CutShort (old new : Sink) (IsCut : Cut → Type 0) (end : End) : Type
       ⊎ (BrokeOffAfter old new cut.said (cut.line ∷ []) × (end ≡ WriteFault))
 
 -- a check ended in one of these ways
-abbrev pub Ends : Moment → Moment → List Message → (End → Type 0) → (Cut → Type 0) → End → Type 0
+abbrev pub Ends : (old new : Moment) → List Message → (End → Type 0) → (Cut → Type 0) → End → Type 0
 Ends old new text IsEnd IsCut end = NotCut old new text IsEnd end ⊎ CutShort old.out new.out IsCut end

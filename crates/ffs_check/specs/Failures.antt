@@ -8,7 +8,7 @@ use Rattle.ffs_volume.specs.declared.End.TheVariants.{Refused, RootStop, ReadFau
 use Rattle.ffs_check.specs.Moment.{Moment}
 
 -- what an end says of the counts of failed reads before and after
-abbrev pub ReadsFailed : End → ℕ → ℕ → Type 0
+abbrev pub ReadsFailed : End → (old new : ℕ) → Type 0
 ReadsFailed Consistent old new = new ≡ old
 ReadsFailed Defects old new = new ≡ old
 ReadsFailed RootStop old new = new ≡ old
@@ -19,7 +19,7 @@ ReadsFailed (ReadFault sector) old new = Rose old new
 ReadsFailed WriteFault old new = (new ≡ old) ⊎ Rose old new
 
 -- what an end says of the counts of failed writes before and after
-abbrev pub WritesFailed : End → ℕ → ℕ → Type 0
+abbrev pub WritesFailed : End → (old new : ℕ) → Type 0
 WritesFailed Consistent old new = new ≡ old
 WritesFailed Defects old new = new ≡ old
 WritesFailed RootStop old new = new ≡ old

@@ -56,7 +56,7 @@ pub record IsCutByMemory (name : List ℕ) (asked_sector : Option ℕ) (image im
 
 -- a read failed or the memory was refused: what is said before the line that says so, that line,
 -- and the end
-abbrev pub IsCutShort : List ℕ → Option ℕ → Device → Device → List Message → Cut → Type 0
+abbrev pub IsCutShort : List ℕ → Option ℕ → (image image' : Device) → List Message → Cut → Type 0
 IsCutShort name asked_sector image image' text cut =
     IsCutAtSuper name asked_sector image image' cut
     ⊎ (IsCutLater name asked_sector image image' text cut

@@ -34,7 +34,8 @@ pub record OpeningBrokeInLine (name : List ℕ) (asked_sector : Option ℕ) (old
   pub end_is : end ≡ WriteFault
 
 -- how an opening ended: with an accepted superblock, or in one of these ways
-abbrev pub OpeningEnds : List ℕ → Option ℕ → Moment → Moment → Result Superblock SuperFault → Result Super End → Type 0
+abbrev pub OpeningEnds : List ℕ → Option ℕ → (old new : Moment) → Result Superblock SuperFault → Result Super End →
+    Type 0
 OpeningEnds name asked_sector old new found (Ok super) =
     Took old.out new.out (texts_of (opening_lines name asked_sector found)) × (found ≡ Ok (superblock_in super))
 OpeningEnds name asked_sector old new found (Err end) =

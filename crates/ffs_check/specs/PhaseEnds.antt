@@ -43,7 +43,7 @@ pub record SaidWhole (stops : Bool) (knows : List ℕ → Type 0) (all : List �
 
 -- all messages at Ok, whole ones but not all at a read's fault, a prefix of their bytes at a fault
 -- of the output
-abbrev pub ReportsOrStopsEarly : (List ℕ → Type 0) → (List ℕ → List Message) → Progress → Progress →
+abbrev pub ReportsOrStopsEarly : (List ℕ → Type 0) → (List ℕ → List Message) → (old new : Progress) →
     Result Root RunFault → Type 0
 ReportsOrStopsEarly knows all old new (Ok root) = SaidWhole (not (is_go root)) knows all old new
 ReportsOrStopsEarly knows all old new (Err (Read fault)) = SaidNotAll knows all old new
@@ -85,21 +85,21 @@ pub record PhasesLeave (v : Layout) (d d' : Device) (w w' : Workspace) (result :
   pub ready : IsReady v d' w'
 
 -- the line of a failed read or of refused memory was said, and this is the end; or the output failed in it
-abbrev pub LineEnds : Progress → Progress → Message → End → End → Type 0
+abbrev pub LineEnds : (old new : Progress) → Message → (cut_end end : End) → Type 0
 LineEnds old new line cut_end end =
     (Said old new (line ∷ []) × (end ≡ cut_end)) ⊎ (Stopped old new (line ∷ []) × (end ≡ WriteFault))
 
 -- the line of a failed read was said, or the output failed in it
-abbrev pub SaysReadFault : Progress → Progress → ℕ → End → Type 0
+abbrev pub SaysReadFault : (old new : Progress) → ℕ → End → Type 0
 SaysReadFault old new sector end = LineEnds old new (cannot_read sector) (ReadFault sector) end
 
 -- the line of a refused memory was said, or the output failed in it
-abbrev pub SaysNoMemory : Progress → Progress → End → Type 0
+abbrev pub SaysNoMemory : (old new : Progress) → End → Type 0
 SaysNoMemory old new end = LineEnds old new cannot_alloc NoMemory end
 
 -- the end that an answer of the phases makes, by the defects of this report, and by whether an
 -- opening that another report said had one (`had_defect`); a failed read is said
-abbrev pub EndsAs : Bool → Progress → Progress → Result Root RunFault → End → Type 0
+abbrev pub EndsAs : Bool → (old new : Progress) → Result Root RunFault → End → Type 0
 EndsAs had_defect old new (Ok root) end = (new ≡ old) × (end ≡ end_by (is_go root) (had_defect || old.defect))
 EndsAs had_defect old new (Err (Read fault)) end = SaysReadFault old new fault.sector end
 EndsAs had_defect old new (Err (Out fault)) end = (new ≡ old) × (end ≡ WriteFault)
@@ -152,7 +152,7 @@ pub record RunsToEnd (s : Superblock) (w w' : Workspace) (old new : Moment) (end
 
 -- what follows an accepted superblock: the memory of the check was refused, and that was said; or
 -- its phases have run
-abbrev pub SaysRest : Superblock → ReportMoment → ReportMoment → End → Type 0
+abbrev pub SaysRest : Superblock → (old new : ReportMoment) → End → Type 0
 SaysRest s old new end =
     ((new.image ≡ old.image) × SaysNoMemory old.report new.report end)
     ⊎ PhasesEnd (IsContents old.image.contents) s (at_output old) (at_output new) end

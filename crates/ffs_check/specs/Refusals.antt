@@ -35,12 +35,12 @@ abbrev pub refusal_text : ErrorKind → List ℕ
 refusal_text kind = text_of_both (first_text kind) (second_text USAGE.now kind)
 
 -- the text of a refusal
-abbrev pub text_refused : Refusal → List ℕ
-text_refused refusal = text_of_both refusal.first.now refusal.second.now
+abbrev pub text_of_refusal : Refusal → List ℕ
+text_of_refusal refusal = text_of_both refusal.first.now refusal.second.now
 
 -- why words ask a program for nothing
 abbrev pub IsNotAsked : {R : Type 0} → Meaning R → List (List ℕ) → NotAsked → Type 0
-IsNotAsked program words (Refused refusal) = program.refuses words (text_refused refusal)
+IsNotAsked program words (Refused refusal) = program.refuses words (text_of_refusal refusal)
 IsNotAsked program words NoMemory = program.lacks_memory words
 
 -- a text is that for a kind of mistake that `clap` states of a program's words

@@ -15,7 +15,7 @@ abbrev pub unopened_text : List ℕ → List ℕ
 unopened_text name = codes "Can't open " ++ (name ++ (10 ∷ []))
 
 -- a text was printed, or a prefix of it where the output failed
-abbrev pub IsPrintedOrBrokeOff : Sink → Sink → List ℕ → Type 0
+abbrev pub IsPrintedOrBrokeOff : (out out' : Sink) → List ℕ → Type 0
 IsPrintedOrBrokeOff out out' text = Took out out' text ⊎ BrokeOff out out' text
 
 -- how images are opened, and what contracts see of one that was
@@ -62,8 +62,8 @@ pub record IsOpenFailure {O : Type 0} (images : Images O) (name : List ℕ) (old
   pub status_is : status ≡ 8
 
 -- the image of a name was looked at, or couldn't be opened
-abbrev pub LooksAtImageOf : {O : Type 0} → Images O → (name : List ℕ) → (Moment → Moment → ℕ → Type 0) → RunMoment O
-    → RunMoment O → ℕ → Type 0
+abbrev pub LooksAtImageOf : {O : Type 0} → Images O → (name : List ℕ) → (Moment → Moment → ℕ → Type 0) →
+    (old new : RunMoment O) → ℕ → Type 0
 LooksAtImageOf images name looks old new status =
     IsOpenedAndSeen images name looks old new status ⊎ IsOpenFailure images name old new status
 
@@ -97,8 +97,8 @@ pub record HadNoMemory {R O : Type 0} (program : Meaning R) (words : List (List 
 
 -- how a run of a program ends: as asked, or without memory, and then nothing goes to standard error; or
 -- refused, and the text for that goes there
-abbrev pub RunEnds : {R O E : Type 0} → Meaning R → Images O → outlet.Ghosts E → List (List ℕ) → RunMoment O
-    → RunMoment O → (errors errors' : E) → ℕ → Type 0
+abbrev pub RunEnds : {R O E : Type 0} → Meaning R → Images O → outlet.Ghosts E → List (List ℕ) →
+    (old new : RunMoment O) → (errors errors' : E) → ℕ → Type 0
 RunEnds program images outlet words old new errors errors' status =
     ((errors' ≡ errors)
     × (RunsAsAsked program images words old new status ⊎ HadNoMemory program words old new status))
@@ -121,8 +121,8 @@ pub record IsUnprinted {S : Type 0} (old new : S) (ran_status status : ℕ) : Ty
   pub status_is : status ≡ 2
 
 -- what follows a run with a status: a flush of its writer, unless the words were refused
-abbrev pub FlushedAfter : {S : Type 0} → (S → Result (Unit {0}) Error → S → Type 0) → (S → Option (List ℕ)) → S → S
-    → ℕ → ℕ → Type 0
+abbrev pub FlushedAfter : {S : Type 0} → (S → Result (Unit {0}) Error → S → Type 0) → (S → Option (List ℕ)) →
+    (old new : S) → (ran_status status : ℕ) → Type 0
 FlushedAfter was_flushed contents old new ran_status status =
     IsUnprinted old new ran_status status ⊎ IsFlushed was_flushed contents old new ran_status status
 

@@ -6,7 +6,7 @@ use Rattle.ffs_volume.specs.{declared.End.{End, TheVariants.NoMemory}, Report.Me
 use Rattle.ffs_volume.specs.{Disk.Superblock.Superblock, Laws.Geometry.IsAcceptedLayout, Report.Memory.held_of}
 
 -- these bytes were granted, or a request was refused before all of them were
-abbrev pub AsksMemory : Account → Account → ℕ → Type 0
+abbrev pub AsksMemory : (old new : Account) → ℕ → Type 0
 AsksMemory old new bytes = Granted old new bytes ⊎ GaveUp old new bytes
 
 -- these bytes are asked for, and the end is `NoMemory` only where a request was refused
@@ -25,5 +25,5 @@ pub record TakesWorkspace (image : Device) (asked_sector : Option ℕ) (old new 
   pub within : held_of found.layout ≤ held_limit found.layout
 
 -- nothing was taken, or the workspace of an accepted volume
-abbrev pub Takes : Device → Option ℕ → Account → Account → Type 0
+abbrev pub Takes : Device → Option ℕ → (old new : Account) → Type 0
 Takes image asked_sector old new = (new ≡ old) ⊎ TakesWorkspace image asked_sector old new

@@ -1,7 +1,7 @@
 //! The text for words that are refused, and how it is written.
 ghost use Rattle.std.specs.Prelude.{◌≡◌, ◌++◌, OnErr};
 ghost use Rattle.ffs_report.specs.Sink.{Prints, PutRefused};
-ghost use Rattle.ffs_check.specs.Refusals.{IsWritten, second_text, text_refused};
+ghost use Rattle.ffs_check.specs.Refusals.{IsWritten, second_text, text_of_refusal};
 
 use crate::version::VERSION;
 use clap::error::ErrorKind;
@@ -31,7 +31,7 @@ pub fn second_text(kind: ErrorKind, usage: &'static [u8]) -> &'static [u8]
 /// Prints both parts of a refusal, and ends the line.
 #[tactic(auto, using(ffs_report::proofs::Sinks::printing, ffs_report::proofs::Sinks::refused_so))]
 fn print_refusal<W: Output>(out: &mut W, refusal: &Refusal) -> Result<(), OutFault>
-    ensures prints { Prints (W.sink out.old) (W.sink out.new) (text_refused refusal.now) result }
+    ensures prints { Prints (W.sink out.old) (W.sink out.new) (text_of_refusal refusal.now) result }
     ensures refused { OnErr result (PutRefused W.was_put out.new) }
 {
     print_both(out, refusal.first, refusal.second)?;
@@ -41,7 +41,7 @@ fn print_refusal<W: Output>(out: &mut W, refusal: &Refusal) -> Result<(), OutFau
 /// Writes a refusal: what is wrong with the words, or the help or the version that they ask for. A
 /// writer that fails changes nothing else.
 pub fn write_refusal<E: Outlet>(errors: &mut E, refusal: &Refusal)
-    ensures { IsWritten E.contents E.was_written errors.old errors.new (text_refused refusal.now) }
+    ensures { IsWritten E.contents E.was_written errors.old errors.new (text_of_refusal refusal.now) }
 {
     let _ = print_refusal(&mut Counted::new(errors), refusal);
 }

@@ -1,6 +1,6 @@
 //! What is written where no check is run: the help, the version, and what is wrong with the words.
 ghost use Rattle.std.specs.Prelude.{◌≡◌};
-ghost use Rattle.ffs_check.specs.Refusals.{first_text, refusal_text, text_refused};
+ghost use Rattle.ffs_check.specs.Refusals.{first_text, refusal_text, text_of_refusal};
 
 use crate::refusal::{Refusal, second_text};
 use clap::error::ErrorKind;
@@ -61,7 +61,7 @@ fn first_text(kind: ErrorKind) -> &'static [u8]
 
 /// What is written for words of which `clap` reports this kind of mistake.
 pub(crate) fn refusal_of(kind: ErrorKind) -> Refusal
-    ensures { text_refused result ≡ refusal_text kind }
+    ensures { text_of_refusal result ≡ refusal_text kind }
 {
     Refusal {
         first: first_text(kind),

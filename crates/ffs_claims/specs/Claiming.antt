@@ -77,7 +77,7 @@ pub record ClaimsInArea (v : Layout) (old new : Workspace) (area : DataArea) : T
 
 -- between two workspaces no more Runs are seen than fragments were unused at first, and 22: each Run that an
 -- inode sees claims a fragment, but for its bad Runs and its dup offers, 21 at most (`runs_limit` rounds up to 22)
-abbrev pub FewRuns : Layout → Workspace → Workspace → Type 0
+abbrev pub FewRuns : Layout → (old new : Workspace) → Type 0
 FewRuns v old new = new.runs_seen + used_bits (claims_of old) ≤ old.runs_seen + v.size + 22
 
 -- what the steps of an inode leave: few Runs more, claims within the bound (`ClaimBound`), what was found and

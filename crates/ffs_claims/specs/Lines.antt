@@ -15,10 +15,10 @@ abbrev pub has_dup_line : Layout → Claims → ℕ → Bool
 has_dup_line v s f = nat_lt s.dup_offers (MAXDUP + 1) && (is_fragment_in_range v f && is_set s.used f)
 
 -- what is reported of a dup offer and of a bad Run, the eleventh one or not
-abbrev pub dup_lines : ℕ → ℕ → Bool → List BlockMessage
+abbrev pub dup_lines : (number f : ℕ) → Bool → List BlockMessage
 dup_lines number f is_eleventh = Dup f number ∷ (if is_eleventh then ManyDup number ∷ [] else [])
 
-abbrev pub bad_lines : ℕ → ℕ → Bool → List BlockMessage
+abbrev pub bad_lines : (number start : ℕ) → Bool → List BlockMessage
 bad_lines number start is_eleventh = Bad start number ∷ (if is_eleventh then ManyBad number ∷ [] else [])
 
 -- the owner with this number whose inode was read: `owner_of` makes it by the number alone

@@ -52,7 +52,7 @@ rescan_end v bytes =
     ROOTINO + runs_until_reported (all_claims v bytes).duplicates (offers_by_owner v (no_claims v) (owners_of v bytes))
 
 -- a count rose by so many; it is exact as long as it fits a u64
-abbrev pub RoseBy : ℕ → ℕ → ℕ → Type 0
+abbrev pub RoseBy : (old new more : ℕ) → Type 0
 RoseBy old new more = old + more < 2 ^ 64 → new ≡ old + more
 
 -- a count rose by at most so many, and by so many as long as it fits a u64

@@ -100,7 +100,7 @@ fn rewalk_inode<I: Image, W: Output>(
         (phase_moment I.Image W.Output image.new workspace.new report.new) result }
 
     // No read of the inode table where the inode is held, else one of its block.
-    ensures table { RereadsByBlock geometry.now.layout number
+    ensures by_block { RereadsByBlock geometry.now.layout number
         (phase_moment I.Image W.Output image.old workspace.old report.old)
         (phase_moment I.Image W.Output image.new workspace.new report.new) result }
 {

@@ -10,7 +10,7 @@ use Rattle.ffs_workspace.specs.declared.workspace.Workspace.{Workspace}
 
 -- by whether it is dead and marked, what messages show of it, its count of links and how often it
 -- is referred to
-abbrev pub reference_reported : Bool → Bool → Label → Attr → ℤ → ℕ → List TreeMessage
+abbrev pub reference_reported : (dead marked : Bool) → Label → Attr → ℤ → ℕ → List TreeMessage
 reference_reported dead marked label attr nlink refs =
     if dead then (if marked then of_reference (DeadMarked label attr) ∷ [] else of_reference (DeadZero attr) ∷ [])
     else (if refs == 0 then (if equals_natural nlink 0 then of_reference (UnrefZero label attr) ∷ []

@@ -25,7 +25,7 @@ abbrev pub WithOwners : Layout → Device → Workspace → List ℕ → Type 0
 WithOwners v d w bytes = IsContents d.contents bytes × HoldsOwners v bytes w
 
 -- a workspace that holds what phase 1 leaves was made, a read failed in phase 1, or the memory was refused
-abbrev pub TakesClaims : Layout → Device → Device → Account → Account → Result Workspace FindFault → Type 0
+abbrev pub TakesClaims : Layout → (d d' : Device) → (before after : Account) → Result Workspace FindFault → Type 0
 TakesClaims v d d' before after (Ok w) =
     (d' ≡ d) × Granted before after (held_of v) × IsReady v d' w
     × ForBytes (IsContents d.contents) (λ b. HoldsPhase1 v b w)

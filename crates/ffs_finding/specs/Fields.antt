@@ -1,9 +1,9 @@
--- A field of the superblock as the program has it, and what its lines leave.
-use Rattle.std.specs.{Prelude.{◌≡◌, ℕ, Bool, List, Option, Ok, Result, IfOk}, List.{concat, flat_map}}
+-- A field of the superblock as the program has it.
+use Rattle.std.specs.{Prelude.{◌≡◌, ℕ, List, Option, Ok}, List.flat_map}
 use Rattle.ffs_image.specs.Device.{Device}
 use Rattle.ffs_volume.specs.Disk.{Superblock.Superblock, Outcome.outcome}
-use Rattle.ffs_report.specs.{Known.IsContents, Sink.{Sink, Prints}}
-use Rattle.ffs_finding.specs.{Outcome.any_line, declared.fields.Field.Field}
+use Rattle.ffs_report.specs.Known.{IsContents}
+use Rattle.ffs_finding.specs.declared.fields.Field.{Field}
 use Rattle.ffs_volume.specs.Find.Fields as book
 
 -- a field of the program as one of the definitions
@@ -13,11 +13,6 @@ field_of f = record { name = f.name.now; place = f.place; has = f.has; wants = f
 -- the lines of those of these fields that are wrong
 abbrev pub wrong_lines : (start : ℕ) → List Field → List (List ℕ)
 wrong_lines start fields = flat_map (λ f. book.field_lines start (field_of f)) fields
-
--- these lines were printed, or the output failed among them; the answer is whether there is one
-pub record PrintsWhether {E : Type 0} (lines : List (List ℕ)) (old new : Sink) (result : Result Bool E) : Type 0 where
-  pub text : Prints old new (concat lines) result
-  pub any : IfOk result (λ b. b ≡ any_line lines)
 
 -- the image gives the bytes, and this superblock is accepted in them at a sector
 abbrev pub WithSuper : Device → Option ℕ → Superblock → List ℕ → Type 0

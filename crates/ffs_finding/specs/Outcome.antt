@@ -1,7 +1,7 @@
 -- What a command leaves of its image and of its output, by its answer. `all` are the lines that it
 -- prints of an image's bytes, and `knows` says which bytes these are.
-use Rattle.std.specs.{Prelude.{◌≡◌, ℕ, Bool, true, false, List, [], ◌∷◌, ◌++◌, Result, Ok, Err, ⊤}, List.concat}
-use Rattle.ffs_report.specs.{Known.ForBytes, Sink.{Sink, Took, BrokeOff}, PhaseOutcome.ImageAfter}
+use Rattle.std.specs.{Prelude.{◌≡◌, ℕ, Bool, true, false, List, [], ◌∷◌, ◌++◌, Result, Ok, Err, IfOk, ⊤}, List.concat}
+use Rattle.ffs_report.specs.{Known.ForBytes, Sink.{Sink, Took, BrokeOff, Prints}, PhaseOutcome.ImageAfter}
 use Rattle.ffs_report.specs.declared.fault.RunFault.{RunFault, TheVariants.{Read, Out}}
 use Rattle.ffs_check.specs.Moment.{Moment}
 
@@ -24,8 +24,8 @@ pub record StoppedIn (knows : List ℕ → Type 0) (all : List ℕ → List (Lis
   pub broke_off : BrokeOff old new (concat lines)
 
 -- all lines at Ok, whole ones at a read's fault, a prefix of their bytes at a fault of the output
-abbrev pub PrintsLines : {T : Type 0} → (List ℕ → Type 0) → (List ℕ → List (List ℕ)) → Sink → Sink
-    → Result T RunFault → Type 0
+abbrev pub PrintsLines : {T : Type 0} → (List ℕ → Type 0) → (List ℕ → List (List ℕ)) → (old new : Sink) →
+    Result T RunFault → Type 0
 PrintsLines knows all old new (Ok x) = PrintedTo knows (λ bytes. []) all old new
 PrintsLines knows all old new (Err (Read fault)) = PrintedSome knows all old new
 PrintsLines knows all old new (Err (Out fault)) = StoppedIn knows all old new
@@ -35,6 +35,11 @@ abbrev pub any_line : List (List ℕ) → Bool
 any_line [] = false
 any_line ([] ∷ lines) = any_line lines
 any_line ((byte ∷ line) ∷ lines) = true
+
+-- these lines were printed, or the output failed among them; the answer is whether there is one
+pub record PrintsWhether {E : Type 0} (lines : List (List ℕ)) (old new : Sink) (result : Result Bool E) : Type 0 where
+  pub text : Prints old new (concat lines) result
+  pub any : IfOk result (λ b. b ≡ any_line lines)
 
 -- what a command leaves of its image, and what it prints
 pub record Finds {T : Type 0} (knows : List ℕ → Type 0) (all : List ℕ → List (List ℕ)) (old new : Moment)

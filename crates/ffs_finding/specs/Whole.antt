@@ -71,7 +71,7 @@ pub record PrintedAll (are_defects : Bool) (knows : List ℕ → Type 0) (all : 
   pub defect_is : defect ≡ (are_defects && any_line printed.lines)
 
 -- the lines of a target were printed, and the answer is whether a defect was found
-abbrev pub TargetAnswers : Target → Option ℕ → Superblock → Moment → Moment → Result Bool FindFault → Type 0
+abbrev pub TargetAnswers : Target → Option ℕ → Superblock → (old new : Moment) → Result Bool FindFault → Type 0
 TargetAnswers target sector s old new (Ok defect) =
     (new.image ≡ old.image) × PrintedAll (finds_defects target) (WithSuper old.image sector s)
     (λ b. target_lines target sector b s) old.out new.out defect
@@ -117,34 +117,34 @@ pub record FindsTarget (target : Target) (sector : Option ℕ) (s : Superblock) 
   pub reads : new.reads ≤ old.reads + target_reads target s.layout
 
 -- bytes of the memory were granted, or a request for them was refused, as the answer says
-abbrev pub IsGranted : (bytes : ℕ) → Account → Account → Result Bool FindFault → Type 0
+abbrev pub IsGranted : (bytes : ℕ) → (before after : Account) → Result Bool FindFault → Type 0
 IsGranted bytes before after (Ok defect) = Granted before after bytes
 IsGranted bytes before after (Err (Refused fault)) = Granted before after bytes
 IsGranted bytes before after (Err (Failed fault)) = Granted before after bytes
 IsGranted bytes before after (Err NoMemory) = GaveUp before after bytes
 
 -- nothing of the memory was asked for
-abbrev pub AsksNothing : Account → Account → Result Bool FindFault → Type 0
+abbrev pub AsksNothing : (before after : Account) → Result Bool FindFault → Type 0
 AsksNothing before after result = (after ≡ before) × (result ≡ Err NoMemory → ⊥)
 
 -- what is taken of the memory for a target, in a volume of this layout: nothing, or what the workspace of a check
 -- holds
-abbrev pub TakesForTarget : Target → Layout → Account → Account → Result Bool FindFault → Type 0
+abbrev pub TakesForTarget : Target → Layout → (before after : Account) → Result Bool FindFault → Type 0
 TakesForTarget (Inode number) v before after result = AsksNothing before after result
 TakesForTarget Fields v before after result = AsksNothing before after result
 TakesForTarget Lost v before after result = IsGranted (held_of v) before after result
 TakesForTarget (Owner fragment) v before after result = IsGranted (held_of v) before after result
 
 -- the line of a fault was printed, or the output failed in it, and the status is 8
-abbrev pub EndsByLine : Sink → Sink → List ℕ → ℕ → Type 0
+abbrev pub EndsByLine : (old new : Sink) → List ℕ → ℕ → Type 0
 EndsByLine old new text status = IsPrintedOrBrokeOff old new text × (status ≡ 8)
 
 -- nothing more is printed, and this is the status
-abbrev pub EndsSilent : Sink → Sink → ℕ → ℕ → Type 0
+abbrev pub EndsSilent : (old new : Sink) → (right status : ℕ) → Type 0
 EndsSilent old new right status = (new ≡ old) × (status ≡ right)
 
 -- how an answer ends: a fault of the image or of the memory has its line
-abbrev pub EndsBy : Sink → Sink → Result Bool FindFault → ℕ → Type 0
+abbrev pub EndsBy : (old new : Sink) → Result Bool FindFault → ℕ → Type 0
 EndsBy old new (Ok defect) status = EndsSilent old new (status_of_answer defect) status
 EndsBy old new (Err (Refused fault)) status = EndsByLine old new (text_of (fault_line fault)) status
 EndsBy old new (Err (Failed (Read fault))) status = EndsByLine old new (text_of (cannot_read fault.sector)) status
@@ -153,18 +153,18 @@ EndsBy old new (Err NoMemory) status = EndsByLine old new (text_of cannot_alloc)
 
 -- where a fault says that the superblock of the command's volume can't be read, a read of it failed, or the image
 -- ends before it does
-abbrev pub IsUnreadableFor : Command → Device → Device → SuperFault → Type 0
+abbrev pub IsUnreadableFor : Command → (d d' : Device) → SuperFault → Type 0
 IsUnreadableFor Copies d d' fault = ⊥
 IsUnreadableFor (InVolume sector target) d d' fault =
     (at : ℕ) → fault ≡ CannotRead at → IsUnreadable d d' sector at
 
 -- the superblock is refused: a read of it failed, or this is its fault in the image's bytes
-abbrev pub RefusesSuperblock : Command → Device → Device → SuperFault → Type 0
+abbrev pub RefusesSuperblock : Command → (d d' : Device) → SuperFault → Type 0
 RefusesSuperblock Copies d d' fault = ⊥
 RefusesSuperblock (InVolume sector target) d d' fault = ReadsSuper d d' sector (Err fault)
 
 -- what a command answers, before the line of a fault
-abbrev pub Answers : Command → Moment → Moment → Account → Account → Result Bool FindFault → Type 0
+abbrev pub Answers : Command → (old new : Moment) → (before after : Account) → Result Bool FindFault → Type 0
 Answers command old new before after (Ok defect) =
     (new.image ≡ old.image) × ForContents old.image.contents (IsAcceptedIn command)
     × PrintedAll (command_finds_defects command) (IsContents old.image.contents) (command_lines command) old.out
@@ -228,13 +228,13 @@ pub record MemoryLacked (old new : Moment) (before after : Account) (status : �
   pub status_is : status ≡ 8
 
 -- how a command ends on an image
-abbrev pub FindEnds : Command → Moment → Moment → Account → Account → ℕ → Type 0
+abbrev pub FindEnds : Command → (old new : Moment) → (before after : Account) → ℕ → Type 0
 FindEnds command old new before after status =
     AllFound command old new status ⊎ (SuperRefused command old new status ⊎ (CutByRead command old new status
     ⊎ (BrokeOffAmong command old new status ⊎ MemoryLacked old new before after status)))
 
 -- what a command takes of the memory: `copies` a window, `lost` and `owner` the workspace of a check
-abbrev pub TakesMemory : Command → Device → Account → Account → Type 0
+abbrev pub TakesMemory : Command → Device → (before after : Account) → Type 0
 TakesMemory Copies d before after = AsksMemory before after window_bytes
 TakesMemory (InVolume sector (Inode number)) d before after = after ≡ before
 TakesMemory (InVolume sector Fields) d before after = after ≡ before
@@ -250,7 +250,7 @@ pub record ReadsVolume (target : Target) (sector : Option ℕ) (d : Device) (bef
   pub reads : after ≤ before + opening_reads + target_reads target found.layout
 
 -- how often a command reads an image: in a volume the superblock, and what a target takes after it
-abbrev pub ReadsForCommand : Command → Device → ℕ → ℕ → Type 0
+abbrev pub ReadsForCommand : Command → Device → (before after : ℕ) → Type 0
 ReadsForCommand Copies d before after = ReadsCopies d before after
 ReadsForCommand (InVolume sector target) d before after =
     (after ≤ before + opening_reads) ⊎ ReadsVolume target sector d before after

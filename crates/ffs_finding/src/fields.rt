@@ -7,7 +7,7 @@ ghost use Rattle.ffs_volume.specs.Find.Fields.{total_fields, wrong_fields};
 ghost use Rattle.ffs_layout.specs.Super.{superblock_in};
 ghost use Rattle.ffs_report.specs.{Fails.FailsIn, Sink.Prints};
 ghost use Rattle.ffs_check.specs.Moment.{moment};
-ghost use Rattle.ffs_finding.specs.{Outcome.FindsAny, Fields.{PrintsWhether, WithSuper, field_of, wrong_lines}};
+ghost use Rattle.ffs_finding.specs.{Outcome.{FindsAny, PrintsWhether}, Fields.{WithSuper, field_of, wrong_lines}};
 
 use byteorder::{BigEndian, ByteOrder, LittleEndian};
 use ffs_image::Image;

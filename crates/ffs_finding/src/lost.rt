@@ -5,7 +5,7 @@ ghost use Rattle.ffs_groups.specs.Free.{free_in};
 ghost use Rattle.ffs_report.specs.Sink.{Prints};
 ghost use Rattle.ffs_workspace.specs.Ready.{IsReady};
 ghost use Rattle.ffs_check.specs.Moment.{moment};
-ghost use Rattle.ffs_finding.specs.{Claims.WithOwners, Fields.PrintsWhether, Outcome.FindsAny, LostMaps.{CanReadGroups, word_of}};
+ghost use Rattle.ffs_finding.specs.{Claims.WithOwners, Outcome.{FindsAny, PrintsWhether}, LostMaps.{CanReadGroups, word_of}};
 ghost use Rattle.ffs_finding.specs.LostMaps.{CanSayGroup, FindsWrong, IsBlockWindow, IsGroupMap, IsInMap, IsInMapOrEnd, IsNext};
 ghost use Rattle.ffs_finding.specs.LostMaps.{is_wrong_at, lines_of_group, no_map_lines};
 ghost use Rattle.ffs_volume.specs.Find.Lost.{lost_lines, range_text, stretch_lines};

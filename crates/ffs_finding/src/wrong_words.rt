@@ -1,7 +1,7 @@
 //! What is written where the words don't say what to find: the help, the version, and what is wrong
 //! with them.
 ghost use Rattle.std.specs.Prelude.{◌≡◌};
-ghost use Rattle.ffs_check.specs.Refusals.{text_refused};
+ghost use Rattle.ffs_check.specs.Refusals.{text_of_refusal};
 ghost use Rattle.ffs_finding.specs.WrongWords.{find_first_text, find_refusal_text};
 
 use clap::error::ErrorKind;
@@ -75,7 +75,7 @@ fn first_text(kind: ErrorKind) -> &'static [u8]
 /// What is written for words of which `clap` reports this kind of mistake, or that no command has:
 /// then an unknown argument.
 pub(crate) fn refusal_of(kind: ErrorKind) -> Refusal
-    ensures { text_refused result ≡ find_refusal_text kind }
+    ensures { text_of_refusal result ≡ find_refusal_text kind }
 {
     Refusal {
         first: first_text(kind),

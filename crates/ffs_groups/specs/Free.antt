@@ -6,11 +6,11 @@ use Rattle.ffs_volume.specs.{declared.Layout.Layout, Blocks.Claims.is_set}
 use Rattle.ffs_groups.specs.declared.free.FreeCounts.{FreeCounts}
 
 -- the fragments below the size whose bit in a map of used ones is clear
-abbrev pub free_in : List Bool → ℕ → ℕ → Bool
+abbrev pub free_in : List Bool → (size f : ℕ) → Bool
 free_in used size f = nat_lt f size && not (is_set used f)
 
 -- n bits of a word, from an index on
-abbrev pub word_bits : ℕ → ℕ → ℕ → List Bool
+abbrev pub word_bits : (word index n : ℕ) → List Bool
 word_bits word index n = map (λ k. nat_eq (bit_at word k) 1) (range_with_len index n)
 
 -- which fragments of block b are free, where block 0 begins at `start`

@@ -14,7 +14,7 @@ pub record InterruptedOnce {F : Type 0} (was_asked : F → Result ℕ Error → 
   pub interrupted : IsInterrupted answer
 
 -- so many calls, one after another, were interrupted
-abbrev pub Interruptions : {F : Type 0} → (F → Result ℕ Error → F → Type 0) → ℕ → F → F → Type 0
+abbrev pub Interruptions : {F : Type 0} → (F → Result ℕ Error → F → Type 0) → ℕ → (old new : F) → Type 0
 Interruptions was_asked zero old new = new ≡ old
 Interruptions {F} was_asked (suc n) old new =
     (between : F) × Interruptions was_asked n old between × InterruptedOnce was_asked between new
@@ -29,6 +29,6 @@ pub record IsAnswered {F : Type 0} (was_asked : F → Result ℕ Error → F →
   pub stands : IsInterrupted answer → ⊥
 
 -- the answer of the same call, tried again only where a signal interrupted it, u64::MAX times at most
-abbrev pub IsTriedAgain : {F : Type 0} → (F → Result ℕ Error → F → Type 0) → F → F → Result ℕ Error → Type 0
+abbrev pub IsTriedAgain : {F : Type 0} → (F → Result ℕ Error → F → Type 0) → (old new : F) → Result ℕ Error → Type 0
 IsTriedAgain was_asked old new answer =
     IsAnswered was_asked old new answer ⊎ (Interruptions was_asked (2 ^ 64 - 1) old new × IsErr answer)

@@ -3,7 +3,7 @@ use Rattle.std.specs.Prelude.{◌≡◌, ℕ, ◌/◌, List, Result, Ok, Err, On
 use Rattle.ffs_image.specs.{Device.{Device, Faulted, IsAt}, declared.image.{ImageFault.ImageFault, TheConstants.DEV_BSIZE}}
 
 -- a failed read is counted, with its sector, and no other answer touches the image
-abbrev pub ReadAfter : {T : Type 0} → Device → Device → Result T ImageFault → Type 0
+abbrev pub ReadAfter : {T : Type 0} → (old new : Device) → Result T ImageFault → Type 0
 ReadAfter old new (Ok x) = new ≡ old
 ReadAfter old new (Err fault) = Faulted old new fault.sector
 

@@ -21,7 +21,7 @@ pub record IsFailed (old new : SourceState) : Type 0 where
   pub rose : Rose old.failures new.failures
 
 -- a failed read is counted, and no other answer touches the source
-abbrev pub SourceAfter : {T E : Type 0} → SourceState → SourceState → Result T E → Type 0
+abbrev pub SourceAfter : {T E : Type 0} → (old new : SourceState) → Result T E → Type 0
 SourceAfter old new (Ok x) = new ≡ old
 SourceAfter old new (Err fault) = IsFailed old new
 
@@ -50,7 +50,8 @@ pub record Fills {T E : Type 0} (old new : SourceState) (at : ℕ) (xs : List �
   pub left : SourceAfter old new result
 
 -- the first ones of len bytes at a place were read, by so many reads: each was of all bytes that were left
-abbrev pub Pieces : {S E : Type 0} → (S → ℕ → ℕ → Result ℕ E → S → Type 0) → ℕ → ℕ → ℕ → ℕ → S → S → Type 0
+abbrev pub Pieces : {S E : Type 0} → (S → ℕ → ℕ → Result ℕ E → S → Type 0) → (at len zero filled : ℕ) →
+    (old new : S) → Type 0
 Pieces was_read at len zero filled old new = (filled ≡ 0) × (new ≡ old)
 Pieces {S} was_read at len (suc n) filled old new =
     (before : ℕ) × (some : ℕ) × (between : S) × Pieces was_read at len n before old between
@@ -73,7 +74,7 @@ pub record FailsAfter {S E : Type 0} (was_read : S → ℕ → ℕ → Result �
 
 -- the reads of all of len bytes at a place: piece after piece, up to the first that failed, and no
 -- other
-abbrev pub ReadsThrough : {S E T F : Type 0} → (S → ℕ → ℕ → Result ℕ E → S → Type 0) → S → S → ℕ → ℕ
-    → Result T F → Type 0
+abbrev pub ReadsThrough : {S E T F : Type 0} → (S → ℕ → ℕ → Result ℕ E → S → Type 0) → (old new : S) → (at len : ℕ) →
+    Result T F → Type 0
 ReadsThrough was_read old new at len result =
     MatchResult result (λ _. IsReadTo was_read at len len old new) (λ _. FailsAfter was_read at len old new)

@@ -50,8 +50,8 @@ pub record IsUnsized {Y F : Type 0} (was_looked_up : Y → List ℕ → Result B
 
 -- no image of a name is opened: it is a FIFO or can't be looked up, or its opening failed, or the file
 -- doesn't give its size
-abbrev pub OpenFails : {Y F : Type 0} → (Y → List ℕ → Result Bool Error → Type 0)
-    → (Y → List ℕ → Result F Error → Y → Type 0) → (F → Result ℕ Error → F → Type 0) → Y → Y → List ℕ → Type 0
+abbrev pub OpenFails : {Y F : Type 0} → (Y → List ℕ → Result Bool Error → Type 0) → (Y → List ℕ → Result F Error → Y →
+    Type 0) → (F → Result ℕ Error → F → Type 0) → (old new : Y) → List ℕ → Type 0
 OpenFails was_looked_up was_opened was_sought old new name =
     IsPassedOver was_looked_up old new name
     ⊎ (IsUnopened was_looked_up was_opened old new name

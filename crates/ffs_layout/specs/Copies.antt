@@ -17,7 +17,8 @@ pub record IsUnreadCopy (old new : Device) (at : ℕ) (answer : SuperFault) : Ty
   pub cause : Faulted old new (at / DEV_BSIZE) ⊎ ((new ≡ old) × (old.size < at + SUPERBLOCK_BYTES))
 
 -- a superblock is read at a place: its bytes are given, or it can't be read
-abbrev pub ReadsSuperblockBytes : Device → Device → (at : ℕ) → (copy : List ℕ) → Result (Unit {0}) SuperFault → Type 0
+abbrev pub ReadsSuperblockBytes : (old new : Device) → (at : ℕ) → (copy : List ℕ) → Result (Unit {0}) SuperFault →
+    Type 0
 ReadsSuperblockBytes old new at copy (Ok x) = IsCopy old new at copy
 ReadsSuperblockBytes old new at copy (Err fault) = IsUnreadCopy old new at fault
 
@@ -41,11 +42,11 @@ pub record CopyDiffers (old new : Device) (sector : Option ℕ) (order : Order) 
   pub differs : ForContents old.contents (λ b. copy_agrees b sector order bytes ≡ false)
 
 -- comparing the last copy gives this fault: it can't be read, or it differs
-abbrev pub IsCopyFault : Device → Device → Option ℕ → Order → List ℕ → SuperFault → Type 0
+abbrev pub IsCopyFault : (old new : Device) → Option ℕ → Order → List ℕ → SuperFault → Type 0
 IsCopyFault old new sector order bytes answer =
     CopyUnread old new sector order bytes answer ⊎ CopyDiffers old new sector order bytes answer
 
 -- the last copy is compared, where no sector was asked for: it agrees, or this gives a fault
-abbrev pub ComparesCopy : Device → Device → Option ℕ → Order → List ℕ → Result (Unit {0}) SuperFault → Type 0
+abbrev pub ComparesCopy : (old new : Device) → Option ℕ → Order → List ℕ → Result (Unit {0}) SuperFault → Type 0
 ComparesCopy old new sector order bytes (Ok x) = CopyAgrees old new sector order bytes
 ComparesCopy old new sector order bytes (Err fault) = IsCopyFault old new sector order bytes fault

@@ -23,7 +23,7 @@ found_of (Err fault) = Err fault
 
 -- This is found by reading the superblock: the fault of a read that failed, or, where the image
 -- gives its bytes, the outcome of these.
-abbrev pub ReadsSuper : Device → Device → Option ℕ → Result Superblock SuperFault → Type 0
+abbrev pub ReadsSuper : (old new : Device) → Option ℕ → Result Superblock SuperFault → Type 0
 ReadsSuper old new sector found =
     (ReadFailed found old new × ((b : List ℕ) → old.contents ≡ Some b → IsSuperSector b sector new.failed_sector))
     ⊎ ((new ≡ old) × ((b : List ℕ) → old.contents ≡ Some b → found ≡ outcome b sector))
@@ -39,6 +39,6 @@ may_read_copy None (Err fault) = false
 
 -- The superblock can't be read, and the fault names the sector `at`: a read failed there, or the
 -- superblock asked for begins at that sector, and would end past the image's end.
-abbrev pub IsUnreadable : Device → Device → Option ℕ → ℕ → Type 0
+abbrev pub IsUnreadable : (old new : Device) → Option ℕ → ℕ → Type 0
 IsUnreadable old new sector at = Faulted old new at ⊎ ((new ≡ old) × (at ≡ super_sector sector)
     × (old.size < at * DEV_BSIZE + SUPERBLOCK_BYTES))

@@ -19,12 +19,12 @@ pub record MakesMap {E : Type 0} (old new : Account) (n : ℕ) (result : Result 
   pub asks : Asks old new (8 * div_ceil n 64) result
 
 -- the bits with `len` of them set, from an index on
-abbrev pub set_run : List Bool → ℕ → ℕ → List Bool
+abbrev pub set_run : List Bool → (start zero : ℕ) → List Bool
 set_run bits start zero = bits
 set_run bits start (suc len) = set_run (slice_set bits start true) (start + 1) len
 
 -- `len` bits from an index on are clear
-abbrev pub AreClear : List Bool → ℕ → ℕ → Type 0
+abbrev pub AreClear : List Bool → (start len : ℕ) → Type 0
 AreClear bits start len = (k : ℕ) → k < len → slice_index_or bits (start + k) false ≡ false
 
 -- a run lies in one word, and in a map of n fragments
@@ -57,5 +57,5 @@ pub record ClaimsRun (old new : FragmentMap) (start len : ℕ) (claimed_now : Bo
   pub one_word : start % 64 + len ≤ 64 → AreClear (bits_of old) start len → IsTrue claimed_now
 
 -- a fragment is of the map, and its bit is clear
-abbrev pub is_clear : List Bool → ℕ → ℕ → Bool
+abbrev pub is_clear : List Bool → (size f : ℕ) → Bool
 is_clear bits size f = nat_lt f size && not (slice_index_or bits f false)

@@ -8,5 +8,5 @@ bits_of_words words size =
     map (λ f. nat_eq (bit_at (slice_index words (f / 64)) (f % 64)) 1) (range_with_len 0 size)
 
 -- how many of `len` bits from an index on are set
-abbrev pub set_among : List Bool → ℕ → ℕ → ℕ
+abbrev pub set_among : List Bool → (start len : ℕ) → ℕ
 set_among bits start len = count_by (λ f. slice_index_or bits f false) (range_with_len start len)

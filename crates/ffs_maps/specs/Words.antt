@@ -39,7 +39,7 @@ IsWordFor None index = Unit {0}
 IsWordFor (Some g) index = 64 * index < g.layout.size
 
 -- the words with the bits of a mask set in the one at an index
-abbrev pub with_bits : Words → ℕ → ℕ → Words
+abbrev pub with_bits : Words → (index mask : ℕ) → Words
 with_bits words index mask = record words {
   list = slice_set words.list index (bit_or (slice_index_or words.list index 0) mask);
 }

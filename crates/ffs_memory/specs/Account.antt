@@ -44,7 +44,7 @@ pub record Given {A : Type 0} (old new : Account) (n bytes : ℕ) (x : A) (list 
   pub granted : Granted old new bytes
 
 -- one request for a list of n elements x was answered: it was granted, or the request was refused
-abbrev pub Gives : {A E : Type 0} → Account → Account → ℕ → ℕ → A → Result (FixedList A) E → Type 0
+abbrev pub Gives : {A E : Type 0} → (old new : Account) → (n bytes : ℕ) → A → Result (FixedList A) E → Type 0
 Gives old new n bytes x result = MatchResult result (Given old new n bytes x) (λ _. RequestRefused old new)
 
 -- the list has no elements yet, and its memory has room for n of them and for no more
@@ -59,9 +59,9 @@ pub record MadeRoom {A : Type 0} (old new : Account) (n size : ℕ) (list : Vec 
   pub granted : Granted old new (size * n)
 
 -- one request for room was answered: the list was made, or the request was refused
-abbrev pub MakesRoom : {A E : Type 0} → Account → Account → ℕ → ℕ → Result (Vec A Global) E → Type 0
+abbrev pub MakesRoom : {A E : Type 0} → (old new : Account) → (n size : ℕ) → Result (Vec A Global) E → Type 0
 MakesRoom old new n size result = MatchResult result (MadeRoom old new n size) (λ _. RequestRefused old new)
 
 -- these bytes were asked for, in one request or in several: all were granted, or a request was refused
-abbrev pub Asks : {T E : Type 0} → Account → Account → ℕ → Result T E → Type 0
+abbrev pub Asks : {T E : Type 0} → (old new : Account) → ℕ → Result T E → Type 0
 Asks old new bytes result = MatchResult result (λ _. Granted old new bytes) (λ _. GaveUp old new bytes)

@@ -6,17 +6,17 @@ use Rattle.ffs_volume.specs.{Directories.Roles.roled_chunk, declared.constants.T
 use Rattle.ffs_names.specs.{Readings.rest, RunCursors.last_place, declared.entries.Entries.Entries}
 
 -- the entries to come of the current chunk
-abbrev pub here : Entries → List RoledEntry
-here r = roled_from r.at_start r.index (entries_from r.order r.chunk 64 r.place)
+abbrev pub left_in_chunk : Entries → List RoledEntry
+left_in_chunk r = roled_from r.at_start r.index (entries_from r.order r.chunk 64 r.place)
 
 -- all entries to come: those of the current chunk, and those of the chunks to come in an image of
 -- these bytes
 abbrev pub to_come : List ℕ → Entries → List RoledEntry
-to_come b r = here r ++ flat_map roled_chunk (rest b r.chunks)
+to_come b r = left_in_chunk r ++ flat_map roled_chunk (rest b r.chunks)
 
 -- at most how many entries are to come, whatever the image holds: 64 of 8 bytes for each chunk
-abbrev pub left : Entries → ℕ
-left r = 64 * r.chunks.budget + (DIRBLKSIZ - r.place) / DIRENT_HEADER
+abbrev pub most_to_come : Entries → ℕ
+most_to_come r = 64 * r.chunks.budget + (DIRBLKSIZ - r.place) / DIRENT_HEADER
 
 -- the name of the entry that it gave last
 abbrev pub last_name : Entries → List ℕ

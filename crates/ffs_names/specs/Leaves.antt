@@ -6,7 +6,7 @@ use Rattle.ffs_image.specs.declared.image.ImageFault.{ImageFault}
 use Rattle.ffs_walk.specs.declared.{blocks.Blocks.Blocks, window.Window.Window}
 use Rattle.ffs_walk.specs.{Rests.most_steps_left, Windows.WindowHolds}
 use Rattle.ffs_survey.specs.{Costs.TakesReads, declared.entry_head.EntryHead.EntryHead}
-use Rattle.ffs_names.specs.{Costs.{to_read, unread_run, HoldsReading, HoldsRun}, Entering.{left, GivesFromChunk}}
+use Rattle.ffs_names.specs.{Costs.{to_read, unread_run, HoldsReading, HoldsRun}, Entering.{most_to_come, GivesFromChunk}}
 use Rattle.ffs_names.specs.Readings.{gap_left, rest, CountsRuns, HasSeenAll, IsSame}
 use Rattle.ffs_names.specs.{RunCursors.{IsGivenChunk, StepsOn}, Windows.{CanReadChunks, CanWalkDir}}
 use Rattle.ffs_names.specs.declared.{chunks.Chunks.Chunks, entries.Entries.Entries, run_cursor.RunCursor.RunCursor}
@@ -81,7 +81,7 @@ pub record LeavesWalk {T : Type 0} (old new : DirWalk) (result : Result T ImageF
   pub any : ReadsBySteps old.reads new.reads old.chunks new.chunks 1
 
 -- a call that moves on to a Run, and finds one, reads for the steps of the walk alone
-abbrev pub ReadsForSteps : DirWalk → DirWalk → Result Bool ImageFault → Type 0
+abbrev pub ReadsForSteps : (old new : DirWalk) → Result Bool ImageFault → Type 0
 ReadsForSteps old new result =
     IfOk result (λ found. found ≡ true → ReadsBySteps old.reads new.reads old.chunks new.chunks 0)
 
@@ -134,7 +134,7 @@ pub record LeavesEntries (old new : DirReading Entries) (result : Result (Option
   pub ready : CanReadChunks old.reading.chunks.walk.geometry.layout new.image new.blocks new.window
   pub read : ReadAfter old.image new.image result
   pub place : IfOk result (λ o. IfSome o (λ _. GivesFromChunk old.image.contents old.reading new.reading))
-  pub left : IfOk result (λ o. IfSome o (λ _. left new.reading < left old.reading))
+  pub left : IfOk result (λ o. IfSome o (λ _. most_to_come new.reading < most_to_come old.reading))
   pub runs : CountsRuns old.image.contents old.reading.chunks new.reading.chunks result
   pub most : new.reads ≤ old.reads + most_left old.reading.chunks + 1
   pub any : IfOk result (λ o. new.reads + most_left new.reading.chunks

@@ -82,15 +82,15 @@ pub record Continues (b : List ℕ) (old : Chunks) (before : List Step) (new : C
   pub gap : (new.gap || gap_after new after) ≡ (old.gap || gap_after old before)
 
 -- it continues by its own walk
-abbrev pub ContinuesTo : List ℕ → Chunks → Chunks → Type 0
+abbrev pub ContinuesTo : List ℕ → (old new : Chunks) → Type 0
 ContinuesTo b old new = Continues b old (steps_left b old.walk) new (steps_left b new.walk)
 
 -- no more Runs are counted and to be counted than before
-abbrev pub CountsNoMore : List ℕ → Chunks → Chunks → Type 0
+abbrev pub CountsNoMore : List ℕ → (old new : Chunks) → Type 0
 CountsNoMore b old new = new.runs + runs_left b new ≤ old.runs + runs_left b old
 
 -- each Run that was looked at is counted
-abbrev pub CountsEach : List ℕ → Chunks → Chunks → Type 0
+abbrev pub CountsEach : List ℕ → (old new : Chunks) → Type 0
 CountsEach b old new = CountsOn (old.runs + runs_left b old) (new.runs + runs_left b new)
 
 -- the count of Runs never falls in a call: each that is looked at is counted, and after a fault no more of them

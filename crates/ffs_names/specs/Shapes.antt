@@ -10,7 +10,7 @@ use Rattle.ffs_layout.specs.declared.geometry.Geometry.{Geometry}
 use Rattle.ffs_walk.specs.declared.{blocks.Blocks.Blocks, window.Window.Window}
 use Rattle.ffs_survey.specs.{declared.entry_head.EntryHead.EntryHead, Reading.roled_of}
 use Rattle.ffs_names.specs.{Readings.{IsEnded, rest, gap_left, chunks_in, runs_left}}
-use Rattle.ffs_names.specs.Entering.{to_come, last_name, left}
+use Rattle.ffs_names.specs.Entering.{to_come, last_name, most_to_come}
 use Rattle.ffs_names.specs.{Costs.{reads_for_entries, HoldsEntries}, declared.entries.Entries.Entries}
 
 -- the entries of the current chunk fill it
@@ -73,7 +73,7 @@ pub record HasStopped (g : Geometry) (r : Entries) : Type 0 where
   pub shape : (b : List ℕ) → has_right_shape b r ≡ false
   pub reads : (b : List ℕ) → reads_for_entries b r ≡ 0
   pub held : (blocks : Blocks) (w : Window) → HoldsEntries blocks w r
-  pub left : left r ≡ 0
+  pub left : most_to_come r ≡ 0
   pub geometry : r.chunks.walk.geometry ≡ g
 
 -- the first of the entries to come in an image of these bytes was read; the answer is None where
@@ -93,7 +93,7 @@ pub record IsChunkOver (old new : Entries) : Type 0 where
 -- the next entry of the current chunk was taken, so fewer are left
 pub record TakesEntry (old new : Entries) (head : EntryHead) : Type 0 where
   pub entries : (b : List ℕ) → to_come b old ≡ roled_of head (last_name new) ∷ to_come b new
-  pub left : left new < left old
+  pub left : most_to_come new < most_to_come old
   pub place : old.place < DIRBLKSIZ
 
 -- what taking an entry of the current chunk leaves as it was

@@ -68,7 +68,7 @@ impl Entries {
     ghost use Rattle.ffs_names.specs.Leaves.{dir_reading, dir_walk, LeavesBlocks, LeavesEntries};
     ghost use Rattle.ffs_image.specs.Reads.{ReadAfter};
     ghost use Rattle.ffs_names.specs.Shapes.{runs_of_inode, has_right_shape, BeginsDirectory, BeginsIn, EndsChunks, GivesDirectory, GivesEntry, HasEnded, HasStopped, RestartsIn, TakesFromChunk};
-    ghost use Rattle.ffs_names.specs.Entering.{here, last_name};
+    ghost use Rattle.ffs_names.specs.Entering.{last_name, left_in_chunk};
 
     /// A reading of the directory with this inode. `cut` is how many offers it keeps where its
     /// eleventh dup offer cut it, else 0.
@@ -306,7 +306,7 @@ impl Entries {
             (HoldsEntries blocks.new w self.new) result) }
         ensures leaves { LeavesBlocks (dir_walk I.Image image.old blocks.old self.old.chunks)
             (dir_walk I.Image image.new blocks.new self.new.chunks) result }
-        ensures current { OnOk result (here self.new ≡ here self.old) }
+        ensures current { OnOk result (left_in_chunk self.new ≡ left_in_chunk self.old) }
         ensures name { last_name self.new ≡ last_name self.old }
         ensures stopped { OnErr result (HasStopped self.old.chunks.walk.geometry self.new) }
     {

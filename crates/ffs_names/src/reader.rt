@@ -52,7 +52,7 @@ pub struct DirectoryReader<'a, I> {
 impl<I: Image> Directories for DirectoryReader<'_, I> {
     ghost use Rattle.ffs_names.specs.Readers.{Base as ReaderBase, KnowsReader, dir_entries, dir_right_shape, IsReaderReady};
     ghost use Rattle.ffs_names.specs.Shapes.{has_right_shape, HasEnded};
-    ghost use Rattle.ffs_names.specs.Entering.{to_come, left as entries_left, last_name};
+    ghost use Rattle.ffs_names.specs.Entering.{to_come, most_to_come, last_name};
     ghost use Rattle.ffs_names.specs.Costs.{reads_for_entries, HoldsEntries};
     ghost use Rattle.ffs_volume.specs.Report.DirectoryReads.{noted_cost};
 
@@ -88,7 +88,7 @@ impl<I: Image> Directories for DirectoryReader<'_, I> {
 
     ghost rest = { λ t b. to_come b t.entries };
 
-    ghost left = { λ t. entries_left t.entries };
+    ghost left = { λ t. most_to_come t.entries };
 
     ghost name = { λ t. last_name t.entries };
 

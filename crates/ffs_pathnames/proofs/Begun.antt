@@ -5,7 +5,7 @@ use Rattle.ffs_pathnames.proofs.{LineCounts.lines_long, LookLaws.quiet_silent, P
 use Rattle.ffs_pathnames.proofs.{PassedLaws.right_reported, BetweenLaws.{unstamped, looked, looked_right, quiet_next}}
 use Rattle.ffs_pathnames.{proofs.BetweenLaws.reported_next, specs.declared.look.Examination.Examination}
 use Rattle.ffs_pathnames.specs.{Examines.{IsExamined, LeavesAllButDue, StampsOwn}, Begins.AreFirstTwo}
-use Rattle.ffs_pathnames.specs.{Begins.IsDirectoryBegun, PassedRight.AreRightBefore, PassedNames.PassedNames}
+use Rattle.ffs_pathnames.specs.{Begins.IsDirectoryBegun, PassedRight.RemembersBefore, PassedNames.PassedNames}
 use Rattle.ffs_pathnames.specs.PassedNames.{are_quiet, entries_reported, after_entries}
 use Rattle.ffs_volume.specs.{declared.Layout.Layout, Blocks.Inodes.inode_of, Directories.{Entries.Entry, Graph.parent}}
 use Rattle.ffs_volume.specs.Directories.{Parents.graph_of, Paths.dir_path, PathnameCheck.{attributes, attributes_of, sized_dir_lines}}
@@ -76,7 +76,7 @@ pub starts_within : (v : Volume) (d : ℕ) → length (dir_header_lines v d) ≤
 starts_within v d =
     let long = lines_long (sized_dir_lines v d) (dir_header_lines v d) _ (lines_parts v d _ refl) in omega (arith, long)
 
-pub quiet_parts : (v : Volume) (d : ℕ) (m : PassedNames) → IsDirectory v d → AreRightBefore v d m →
+pub quiet_parts : (v : Volume) (d : ℕ) (m : PassedNames) → IsDirectory v d → RemembersBefore v d m →
     are_quiet v d m.flags m.stamps (roled_entries v d) ≡ true →
     map of_tree (dir_header_lines v d) ≡ map of_tree (sized_dir_lines v d)
 unfolding size_of
@@ -85,7 +85,7 @@ quiet_parts v d m dir r h =
     h in
     sym (lines_parts v d [] none ∙ append-nil (map of_tree (dir_header_lines v d)))
 
-pub reported_parts : (v : Volume) (d : ℕ) (m m' : PassedNames) → IsDirectory v d → AreRightBefore v d m →
+pub reported_parts : (v : Volume) (d : ℕ) (m m' : PassedNames) → IsDirectory v d → RemembersBefore v d m →
     m' ≡ looked v d m →
     map of_tree (sized_dir_lines v d) ≡ map of_tree (dir_header_lines v d)
     ++ map of_tree (entries_reported v d m' (roled_entries v d))
@@ -94,10 +94,10 @@ reported_parts v d m m' dir r e = rw e (lines_parts v d _
     (right_reported [] (roled_entries v d) (looked v d m) dir refl (looked_right v d m r)))
 
 -- the names that were passed after it
-pub quiet_after : (v : Volume) (d : ℕ) (m m' : PassedNames) → AreRightBefore v d m →
-    are_quiet v d m.flags m.stamps (roled_entries v d) ≡ true → m' ≡ looked v d m → AreRightBefore v (suc d) m'
+pub quiet_after : (v : Volume) (d : ℕ) (m m' : PassedNames) → RemembersBefore v d m →
+    are_quiet v d m.flags m.stamps (roled_entries v d) ≡ true → m' ≡ looked v d m → RemembersBefore v (suc d) m'
 quiet_after v d m m' r h e = rw e (quiet_next v d m r h)
 
-pub reported_after : (v : Volume) (d : ℕ) (m m' m'' : PassedNames) → IsDirectory v d → AreRightBefore v d m →
-    m' ≡ looked v d m → after_entries v d m' (roled_entries v d) ≡ m'' → AreRightBefore v (suc d) m''
+pub reported_after : (v : Volume) (d : ℕ) (m m' m'' : PassedNames) → IsDirectory v d → RemembersBefore v d m →
+    m' ≡ looked v d m → after_entries v d m' (roled_entries v d) ≡ m'' → RemembersBefore v (suc d) m''
 reported_after v d m m' m'' dir r e q = rw (← q, e) (reported_next v d m dir r)

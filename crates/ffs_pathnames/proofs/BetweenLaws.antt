@@ -7,7 +7,7 @@ use Rattle.ffs_pathnames.proofs.{FirstTwo.parent_edge, PassedLaws.{IsDirectory, 
 use Rattle.ffs_pathnames.{specs.Silent.IsSilentDirectory, proofs.LookLaws.{AreStamped, stamped_all, looks_all_long}}
 use Rattle.ffs_pathnames.{proofs.LookLaws.suspects_flagged, specs.PassedNames.{PassedNames, is_flagged_calm}}
 use Rattle.ffs_pathnames.specs.PassedNames.{is_flagged, after_roled, after_entries, belongs, after_look, after_looks}
-use Rattle.ffs_pathnames.specs.{PassedNames.are_quiet, PassedRight.{AreRight, AreRightBefore}}
+use Rattle.ffs_pathnames.specs.{PassedNames.are_quiet, PassedRight.{RemembersWithin, RemembersBefore}}
 use Rattle.ffs_volume.specs.Directories.Roles.{Volume, RoledEntry, is_dir, is_suspect, roled_entries}
 use Rattle.ffs_volume.specs.Directories.{Parents.graph_of, Graph.{is_naming_entry, is_naming_dir, parent}}
 use Rattle.ffs_volume.proofs.{ClimbLaws.is_value-true, SearchLaws.some_below-suc}
@@ -20,14 +20,14 @@ belongs_named v s x h =
     grind (arith, nat_tests)
 
 -- nothing is stamped before s is looked at
-pub unstamped : (v : Volume) (s : ℕ) (m : PassedNames) → AreRightBefore v s m → AreStamped v s [] m.stamps
+pub unstamped : (v : Volume) (s : ℕ) (m : PassedNames) → RemembersBefore v s m → AreStamped v s [] m.stamps
 unstamped v s m r x h = let low = r.stamps x h in grind (arith, nat_tests)
 
 abbrev pub looked : Volume → ℕ → PassedNames → PassedNames
 looked v s m = record m { stamps = after_looks v s m.stamps (roled_entries v s) }
 
 -- once s is looked at, what is remembered is right before its first entry
-pub looked_right : (v : Volume) (s : ℕ) (m : PassedNames) → AreRightBefore v s m → AreRight v s [] (looked v s m)
+pub looked_right : (v : Volume) (s : ℕ) (m : PassedNames) → RemembersBefore v s m → RemembersWithin v s [] (looked v s m)
 looked_right v s m r =
     let all = stamped_all v s [] (roled_entries v s) m.stamps r.stamps_length (unstamped v s m r) in
     grind (arith, belongs_named, looks_all_long, or-false, nat_tests)
@@ -59,8 +59,8 @@ entries_calm v s [] m x = refl
 entries_calm v s (e ∷ es) m x = entries_calm v s es (after_roled v s m e) x ∙ calm_roled v s e x m
 
 -- ---- the next directory
-right_end : {v : Volume} {s : ℕ} (done es : List RoledEntry) (m : PassedNames) → 2 ≤ s → AreRight v s done m →
-    AreRight v s (done ++ es) (after_entries v s m es)
+right_end : {v : Volume} {s : ℕ} (done es : List RoledEntry) (m : PassedNames) → 2 ≤ s → RemembersWithin v s done m →
+    RemembersWithin v s (done ++ es) (after_entries v s m es)
 right_end done [] m two r = rw (append-nil done) r
 right_end {v = v} {s = s} done (e ∷ es) m two r =
     rw (← append_assoc done (e ∷ []) es)
@@ -71,14 +71,14 @@ abbrev FlagsNamed : Volume → ℕ → PassedNames → Type 0
 FlagsNamed v s m = (x : ℕ) → is_suspect v x ≡ true → x ≢ 1 → x ≢ 2 → is_naming_dir (graph_of v) s x ≡ true →
     is_flagged m x ≡ true
 
-next : (v : Volume) (s : ℕ) (m : PassedNames) (stamps : List ℕ) → AreRightBefore v s m → FlagsNamed v s m →
+next : (v : Volume) (s : ℕ) (m : PassedNames) (stamps : List ℕ) → RemembersBefore v s m → FlagsNamed v s m →
     ((x : ℕ) → slice_index m.stamps x ≤ s → slice_index stamps x ≤ s) → length stamps ≡ length m.stamps →
-    AreRightBefore v (suc s) (record m { stamps = stamps })
+    RemembersBefore v (suc s) (record m { stamps = stamps })
 next v s m stamps r flagged small long = grind (arith, some_below-suc, nat_tests)
 
 -- after a directory of which all entries were passed
-pub reported_next : (v : Volume) (s : ℕ) (m : PassedNames) → IsDirectory v s → AreRightBefore v s m →
-    AreRightBefore v (suc s) (after_entries v s (looked v s m) (roled_entries v s))
+pub reported_next : (v : Volume) (s : ℕ) (m : PassedNames) → IsDirectory v s → RemembersBefore v s m →
+    RemembersBefore v (suc s) (after_entries v s (looked v s m) (roled_entries v s))
 reported_next v s m d r =
     let whole = right_end [] (roled_entries v s) (looked v s m) d.from_two (looked_right v s m r) in
     record {
@@ -96,23 +96,23 @@ quiet_flagged v s m h x q n two named =
     suspects_flagged v s m.flags (roled_entries v s) m.stamps x h q n two (and_parts (is_dir v s) _ named).1
 
 -- after a directory of which nothing is reported
-pub quiet_next : (v : Volume) (s : ℕ) (m : PassedNames) → AreRightBefore v s m →
-    are_quiet v s m.flags m.stamps (roled_entries v s) ≡ true → AreRightBefore v (suc s) (looked v s m)
+pub quiet_next : (v : Volume) (s : ℕ) (m : PassedNames) → RemembersBefore v s m →
+    are_quiet v s m.flags m.stamps (roled_entries v s) ≡ true → RemembersBefore v (suc s) (looked v s m)
 quiet_next v s m r h = search (arith, next, quiet_flagged, looks_small, looks_all_long)
 
 -- after an inode that names no suspect, and isn't looked at
 pub other_next : (v : Volume) (s : ℕ) (m : PassedNames) →
-    ((x : ℕ) → is_suspect v x ≡ true → x ≢ 1 → is_naming_dir (graph_of v) s x ≡ false) → AreRightBefore v s m →
-    AreRightBefore v (suc s) m
+    ((x : ℕ) → is_suspect v x ≡ true → x ≢ 1 → is_naming_dir (graph_of v) s x ≡ false) → RemembersBefore v s m →
+    RemembersBefore v (suc s) m
 other_next v s m none r = next v s m m.stamps r
     (λ x q n two named. absurd (both_ways (is_naming_dir (graph_of v) s x) (none x q n) named)) (λ x h. h) refl
 
 -- nothing is stamped by s before it is looked at
-pub silent_quiet : (v : Volume) (s : ℕ) (m : PassedNames) → IsSilentDirectory v s → AreRightBefore v s m →
+pub silent_quiet : (v : Volume) (s : ℕ) (m : PassedNames) → IsSilentDirectory v s → RemembersBefore v s m →
     are_quiet v s m.flags m.stamps (roled_entries v s) ≡ true
 silent_quiet v s m silent r = silent.entries m.flags m.stamps (λ y h. let low = r.stamps y h in grind (arith, nat_tests))
 
 -- after a directory that is left out
-pub silent_next : (v : Volume) (s : ℕ) (m : PassedNames) → IsSilentDirectory v s → AreRightBefore v s m →
-    AreRightBefore v (suc s) m
+pub silent_next : (v : Volume) (s : ℕ) (m : PassedNames) → IsSilentDirectory v s → RemembersBefore v s m →
+    RemembersBefore v (suc s) m
 silent_next v s m silent r = next v s m m.stamps r (quiet_flagged v s m (silent_quiet v s m silent r)) (λ x h. h) refl

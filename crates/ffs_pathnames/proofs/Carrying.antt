@@ -15,7 +15,7 @@ use Rattle.ffs_workspace.{specs.{Holds.{HoldsReferences, HoldsSurvey}, Leaves.Le
 use Rattle.ffs_workspace.proofs.{KindLaws.suspect_is, Leaving.{claims_left, survey_left, leaves_all}}
 use Rattle.ffs_pathnames.specs.{Gathers.passed_of, DirectoryContext.DirectoryContext, Before.{IsNonePassed, IsBefore}}
 use Rattle.ffs_pathnames.specs.{Before.{IsBeforeNoted, needs_check, root_reported}, Silent.IsSilentDirectory}
-use Rattle.ffs_pathnames.{specs.{PassedRight.AreRightBefore, Stamps.KeepPlaces}, proofs.Begun.directory_is}
+use Rattle.ffs_pathnames.{specs.{PassedRight.RemembersBefore, Stamps.KeepPlaces}, proofs.Begun.directory_is}
 use Rattle.ffs_pathnames.proofs.{Begun.quiet_parts, StampLaws.{noted_kept, stamps_length}, BetweenLaws.other_next}
 use Rattle.ffs_pathnames.proofs.{BetweenLaws.{silent_next, silent_quiet}, EmptyLaws.{looked_is, looked_dir, names_none}}
 use Rattle.ffs_survey.specs.Survey.{suspect_at}
@@ -43,7 +43,7 @@ suspect_shown v b w x h = rw (h.kinds x, h.marked x) (sym (suspect_is v b x))
 -- where no name is passed, all is right before the first directory
 clear_right : (v : Layout) (b : List ℕ) (old w : Workspace) → HoldsClaims v b old → IsFor v w → IsNonePassed old w →
     ((x : ℕ) → bool_at old.flags.items x ≡ true → IsSilentDirectory (volume_of v b) x) →
-    AreRightBefore (volume_of v b) 2 (passed_of w)
+    RemembersBefore (volume_of v b) 2 (passed_of w)
 unfolding volume_of volume_with
 clear_right v b old w k m c silent = grind (arith, suspect_shown, some_below-none, stamps_length)
 
@@ -54,7 +54,7 @@ before_first v contents b old w t h s m c silent = grind (arith, claims_left, su
 
 -- the next inode, or an image that gives the same
 pub before_next : {v : Layout} {contents contents' : Option (List ℕ)} {old new : Workspace} {d d' : ℕ} {b : List ℕ} →
-    contents' ≡ contents → LeavesSurvey old new → AreRightBefore (volume_of v b) d' (passed_of new) →
+    contents' ≡ contents → LeavesSurvey old new → RemembersBefore (volume_of v b) d' (passed_of new) →
     IsBefore v contents old d b → IsBefore v contents' new d' b
 before_next {v = v} {b = b} e s r k = record {
   gives_bytes = e ∙ k.gives_bytes;
@@ -66,7 +66,7 @@ before_next {v = v} {b = b} e s r k = record {
 -- the same, where places are noted
 pub noted_next : {v : Layout} {contents contents' : Option (List ℕ)} {old new : Workspace} {d d' : ℕ} {b : List ℕ} →
     contents' ≡ contents → LeavesSurvey old new → KeepPlaces old.queue.items new.queue.items →
-    AreRightBefore (volume_of v b) d' (passed_of new) → IsBeforeNoted v contents old d b →
+    RemembersBefore (volume_of v b) d' (passed_of new) → IsBeforeNoted v contents old d b →
     IsBeforeNoted v contents' new d' b
 noted_next {v = v} {b = b} e s keep r k = record {
   before = before_next e s r k.before;

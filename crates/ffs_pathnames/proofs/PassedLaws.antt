@@ -13,7 +13,7 @@ use Rattle.ffs_volume.specs.{Directories.Parents.{is_first_naming_entry, is_pare
 use Rattle.ffs_volume.{specs.Disk.Search.first_below, proofs.SearchLaws.first_below-tells}
 use Rattle.ffs_pathnames.specs.PassedNames.{PassedNames, is_flagged, is_flagged_calm, is_stamped, after_name, after_roled}
 use Rattle.ffs_pathnames.specs.PassedNames.{verdict_at_reading, roled_reported, entries_reported}
-use Rattle.ffs_pathnames.specs.PassedRight.{AreRight}
+use Rattle.ffs_pathnames.specs.PassedRight.{RemembersWithin}
 
 -- ---- the place of an entry
 -- how many entries there are
@@ -77,7 +77,7 @@ module _ {v : Volume} {s : ℕ} {done es : List RoledEntry} {e : RoledEntry} (i 
       && not (list_any (is_naming_entry e.entry.number) done))
   from_parent_is = let place = place_is in grind (arith, common_steps)
 
-  module _ {m : PassedNames} (r : AreRight v s done m) where
+  module _ {m : PassedNames} (r : RemembersWithin v s done m) where
     suspect_same : e.entry.number < v.count → e.entry.number ≢ 1 →
         is_first_of_suspect v (is_first_naming_entry (graph_of v) s (size_of done) e.entry.number) e.entry.number
         ≡ is_first_of_suspect v (not (is_flagged m e.entry.number)) e.entry.number
@@ -99,7 +99,7 @@ module _ {v : Volume} {s : ℕ} {done es : List RoledEntry} {e : RoledEntry} (i 
     plain_same = let named = named_same in grind (arith, common_steps)
 
 seen_same : {v : Volume} {s : ℕ} {done es : List RoledEntry} {e : RoledEntry} {m : PassedNames} →
-    IsEntry v s done e es → AreRight v s done m → entry_lines v s (size_of done) e ≡ roled_reported v s m e
+    IsEntry v s done e es → RemembersWithin v s done m → entry_lines v s (size_of done) e ≡ roled_reported v s m e
 unfolding entry_lines roled_reported
 seen_same i r = grind (arith, plain_same)
 
@@ -109,7 +109,7 @@ pub any_more : (p : RoledEntry → Bool) (done : List RoledEntry) (e : RoledEntr
 any_more p done e = grind (arith, common_steps)
 
 skips : {v : Volume} {s : ℕ} {done : List RoledEntry} {m : PassedNames} (e : RoledEntry) →
-    (is_plain e.role && nat_lt e.entry.number v.count) ≡ false → AreRight v s done m → AreRight v s (done ++ e ∷ []) m
+    (is_plain e.role && nat_lt e.entry.number v.count) ≡ false → RemembersWithin v s done m → RemembersWithin v s (done ++ e ∷ []) m
 skips e t r = grind (arith, nat_tests, any_more)
 
 -- the flags of inodes that aren't suspect stay
@@ -118,7 +118,7 @@ pub calm_roled : (v : Volume) (s : ℕ) (e : RoledEntry) (x : ℕ) (m : PassedNa
 calm_roled v s e x m = grind (arith, nat_tests, get_or-set_other)
 
 passes : {v : Volume} {s : ℕ} {done : List RoledEntry} {m : PassedNames} (e : RoledEntry) → 2 ≤ s → e.role ≡ Plain →
-    e.entry.number < v.count → AreRight v s done m → AreRight v s (done ++ e ∷ []) (after_name v s m e.entry.number)
+    e.entry.number < v.count → RemembersWithin v s done m → RemembersWithin v s (done ++ e ∷ []) (after_name v s m e.entry.number)
 passes {done = done} e two p low r = record {
   named = λ x h q u n.
       let a = r.named x h q u n in
@@ -133,11 +133,11 @@ passes {done = done} e two p low r = record {
 }
 
 pub right_after : {v : Volume} {s : ℕ} {done : List RoledEntry} {m : PassedNames} (e : RoledEntry) → 2 ≤ s →
-    AreRight v s done m → AreRight v s (done ++ e ∷ []) (after_roled v s m e)
+    RemembersWithin v s done m → RemembersWithin v s (done ++ e ∷ []) (after_roled v s m e)
 right_after {v = v} {s = s} {done = done} {m = m} e two r = one (is_plain e.role && nat_lt e.entry.number v.count) refl
   where
     one : (b : Bool) → (is_plain e.role && nat_lt e.entry.number v.count) ≡ b →
-        AreRight v s (done ++ e ∷ []) (if b then after_name v s m e.entry.number else m)
+        RemembersWithin v s (done ++ e ∷ []) (if b then after_name v s m e.entry.number else m)
     one false t = skips e t r
     one true t =
         let q = and_parts (is_plain e.role) _ t in
@@ -145,7 +145,7 @@ right_after {v = v} {s = s} {done = done} {m = m} e two r = one (is_plain e.role
 
 -- ---- all entries
 pub right_reported : {v : Volume} {s : ℕ} (done es : List RoledEntry) (m : PassedNames) → IsDirectory v s →
-    roled_entries v s ≡ done ++ es → AreRight v s done m →
+    roled_entries v s ≡ done ++ es → RemembersWithin v s done m →
     lines_of_entries v s (size_of done) es ≡ entries_reported v s m es
 unfolding lines_of_entries
 right_reported done [] m d whole r = refl

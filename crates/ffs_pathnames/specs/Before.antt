@@ -9,7 +9,7 @@ use Rattle.ffs_volume.specs.declared.tree_lines.DirectoryLine.TheVariants.{RootN
 use Rattle.ffs_workspace.specs.{declared.workspace.Workspace.Workspace, Leaves.LeavesSurvey}
 use Rattle.ffs_volume.specs.Encodings.Places.{AreNoted}
 use Rattle.ffs_workspace.specs.{Holds.{bool_at, HoldsClaims, HoldsSurvey}, Ready.{CanRead, IsReady}}
-use Rattle.ffs_pathnames.specs.{Gathers.{HasInodeLists, passed_of}, PassedRight.AreRightBefore}
+use Rattle.ffs_pathnames.specs.{Gathers.{HasInodeLists, passed_of}, PassedRight.RemembersBefore}
 use Rattle.ffs_survey.specs.Survey.{suspect_at}
 
 -- what was found stays; the flags of suspect inodes are taken away, and no others; nothing is
@@ -27,7 +27,7 @@ pub record IsBefore (v : Layout) (contents : Option (List ℕ)) (w : Workspace) 
   pub gives_bytes : contents ≡ Some b
   pub claims : HoldsClaims v b w
   pub survey : HoldsSurvey v b w
-  pub passed : AreRightBefore (volume_of v b) dir (passed_of w)
+  pub passed : RemembersBefore (volume_of v b) dir (passed_of w)
 
 -- and a place is noted of the parent entry of each directory that is reached and isn't the root
 pub record IsBeforeNoted (v : Layout) (contents : Option (List ℕ)) (w : Workspace) (dir : ℕ) (b : List ℕ) : Type 0 where

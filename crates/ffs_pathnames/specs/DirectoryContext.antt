@@ -1,7 +1,7 @@
 -- What is known of an image's bytes during the pathname check of a directory.
 use Rattle.std.specs.Prelude.{◌≡◌, ℕ, true, IsTrue, List, Option, Some}
 use Rattle.ffs_image.specs.Device.{Device}
-use Rattle.ffs_report.specs.Known.{ForBytes}
+use Rattle.ffs_report.specs.Known.{ForBytes, IsContents}
 use Rattle.ffs_volume.specs.{declared.Layout.Layout, Blocks.Inodes.inode_of, Directories.Graph.Graph}
 use Rattle.ffs_volume.specs.{Directories.{Parents.graph_of, PathnameCheck.attributes_of, Roles.is_dir, Volumes.volume_of}, Encodings.Places.AreNoted}
 use Rattle.ffs_workspace.specs.{declared.workspace.Workspace.Workspace, Holds.{HoldsClaims, HoldsSurvey}}
@@ -13,7 +13,7 @@ use Rattle.ffs_pathnames.specs.declared.entry_texts.EntryTexts.{EntryTexts}
 -- place of each directory that is reached; and d is a directory
 pub record DirectoryContext (v : Layout) (contents : Option (List ℕ)) (w : Workspace) (d : ℕ) (b : List ℕ) :
     Type 0 where
-  pub gives_bytes : contents ≡ Some b
+  pub gives_bytes : IsContents contents b
   pub claims : HoldsClaims v b w
   pub survey : HoldsSurvey v b w
   pub noted : AreNoted v b w.queue.items

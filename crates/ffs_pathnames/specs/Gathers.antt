@@ -21,7 +21,7 @@ use Rattle.ffs_pathnames.specs.LineReads.{ReadsPathOnce}
 use Rattle.ffs_workspace.specs.{declared.workspace.Workspace.Workspace, Holds.{HoldsClaims, HoldsSurvey}, Lengths.IsFor}
 
 -- the messages are the same as with the volume's own attributes and paths
-abbrev pub IsEnough : Volume → Verdict → ℕ → ℕ → List ℕ → Attr → List ℕ → List ℕ → Type 0
+abbrev pub IsEnough : Volume → Verdict → (dir number : ℕ) → List ℕ → Attr → (path directory : List ℕ) → Type 0
 IsEnough vol verdict dir number name attr path directory =
     verdict_lines verdict number attr path directory
     ≡ verdict_lines verdict number (attributes vol number) (entry_path (graph_of vol) dir name)

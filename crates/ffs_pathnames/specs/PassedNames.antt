@@ -62,7 +62,7 @@ abbrev pub directory_reported : Volume → ℕ → PassedNames → List TreeMess
 directory_reported vol dir m = entries_reported vol dir m (roled_entries vol dir)
 
 -- x is a directory other than the root, with the parent `dir`
-abbrev pub belongs : Volume → ℕ → ℕ → Bool
+abbrev pub belongs : Volume → (dir x : ℕ) → Bool
 belongs vol dir x = is_dir vol x && (not (x == ROOTINO) && is_value (parent (graph_of vol) x) dir)
 
 -- a first look at the entries of `dir` stamps each inode that belongs to `dir`

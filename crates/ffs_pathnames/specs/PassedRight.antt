@@ -7,7 +7,7 @@ use Rattle.ffs_pathnames.specs.{Silent.IsSilentDirectory, PassedNames.{PassedNam
 use Rattle.ffs_pathnames.specs.PassedNames.{belongs}
 
 -- what is remembered is right within the directory `dir`, after its entries `done`
-pub record AreRight (vol : Volume) (dir : ℕ) (done : List RoledEntry) (m : PassedNames) : Type 0 where
+pub record RemembersWithin (vol : Volume) (dir : ℕ) (done : List RoledEntry) (m : PassedNames) : Type 0 where
   pub named : (x : ℕ) → x < vol.count → is_suspect vol x ≡ true → x ≢ WINO → x ≢ ROOTINO →
       is_flagged m x ≡ (some_below (λ t. is_naming_dir (graph_of vol) t x) dir || list_any (is_naming_entry x) done)
   pub due : (x : ℕ) → x < vol.count → is_stamped dir m x
@@ -16,7 +16,7 @@ pub record AreRight (vol : Volume) (dir : ℕ) (done : List RoledEntry) (m : Pas
   pub stamps_length : length m.stamps ≡ vol.count
 
 -- what is remembered is right between directories, before `dir`
-pub record AreRightBefore (vol : Volume) (dir : ℕ) (m : PassedNames) : Type 0 where
+pub record RemembersBefore (vol : Volume) (dir : ℕ) (m : PassedNames) : Type 0 where
   pub named : (x : ℕ) → x < vol.count → is_suspect vol x ≡ true → x ≢ WINO → x ≢ ROOTINO
       → is_flagged m x ≡ some_below (λ t. is_naming_dir (graph_of vol) t x) dir
   pub stamps : (x : ℕ) → x < vol.count → slice_index m.stamps x < dir

@@ -5,7 +5,7 @@ use Rattle.ffs_volume.specs.{declared.Layout.Layout, Directories.Volumes.volume_
 use Rattle.ffs_workspace.specs.declared.workspace.Workspace.{Workspace}
 use Rattle.ffs_volume.specs.Report.DirectoryReads.{directory_cost, directory_runs}
 use Rattle.ffs_pathnames.specs.{declared.look.Directory.Directory, DirectoryContext.{DirectoryContext, KnowsDirectory}}
-use Rattle.ffs_pathnames.specs.{Before.IsBeforeNoted, Gathers.passed_of, PassedRight.AreRightBefore}
+use Rattle.ffs_pathnames.specs.{Before.IsBeforeNoted, Gathers.passed_of, PassedRight.RemembersBefore}
 
 -- the bytes are those of a directory's context, and the reads that are left suffice for a first look at it
 abbrev pub LeftForLook : Layout → Device → Workspace → (dir left : ℕ) → List ℕ → Type 0
@@ -20,7 +20,7 @@ LeftForRuns v device w directory left b =
 -- before it is right, and the reads that are left suffice for a first look at it and a second reading
 pub record LeftForBoth (v : Layout) (device : Device) (w : Workspace) (dir left : ℕ) (b : List ℕ) : Type 0 where
   pub knows : DirectoryContext v device.contents w dir b
-  pub passed : AreRightBefore (volume_of v b) dir (passed_of w)
+  pub passed : RemembersBefore (volume_of v b) dir (passed_of w)
   pub enough : 2 * directory_cost v b dir ≤ left
 
 -- what is known between two directories, and the reads that are left suffice for a first look at the next one

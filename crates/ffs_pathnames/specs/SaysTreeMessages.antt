@@ -6,7 +6,7 @@ use Rattle.ffs_report.specs.Progress.{Progress, Says}
 use Rattle.ffs_pathnames.specs.declared.say.{LineIf.LineIf, Phase2Line.{Phase2Line, TheVariants.{Directory, Dot, Entry}}}
 
 -- the outcome of saying these messages
-abbrev pub SaysTreeMessages : {T E : Type 0} → Progress → Progress → List TreeMessage → Result T E → Type 0
+abbrev pub SaysTreeMessages : {T E : Type 0} → (old new : Progress) → List TreeMessage → Result T E → Type 0
 SaysTreeMessages old new messages result = Says old new (map of_tree messages) result
 
 -- the message of a line of phase 2

@@ -6,7 +6,7 @@ use Rattle.ffs_volume.specs.{Directories.PathnameCheck.{dir_header_lines, sized_
 use Rattle.ffs_volume.specs.Report.DirectoryReads.{directory_cost, directory_runs}
 use Rattle.ffs_workspace.specs.declared.workspace.Workspace.{Workspace}
 use Rattle.ffs_pathnames.specs.{Before.IsBeforeNoted, Begins.IsDirectoryBegun, ChecksNeeded.KeepsFlags, Gathers.passed_of}
-use Rattle.ffs_pathnames.specs.{PassedNames.{after_directory, directory_reported}, PassedRight.AreRightBefore}
+use Rattle.ffs_pathnames.specs.{PassedNames.{after_directory, directory_reported}, PassedRight.RemembersBefore}
 use Rattle.ffs_pathnames.specs.ReadsLeft.{LeftForBoth, LeftForLook, LeftForNext, LeftForRuns}
 use Rattle.ffs_pathnames.specs.declared.look.{Directory.Directory, Examination.Examination}
 
@@ -34,7 +34,7 @@ sized_task v d w w' dir left = record {
   knows = LeftForBoth v d w dir left;
   own_reads = λ b. 2 * directory_cost v b dir;
   lines = λ b. sized_dir_lines (volume_of v b) dir;
-  after = λ _ b. AreRightBefore (volume_of v b) (suc dir) (passed_of w') × KeepsFlags w w';
+  after = λ _ b. RemembersBefore (volume_of v b) (suc dir) (passed_of w') × KeepsFlags w w';
 }
 
 -- of `begin_directory`: the first look, which is one reading, and the lines before those of the entries. Then: what the
@@ -47,7 +47,7 @@ begin_task v d w w' dir left = record {
   after = λ e b. IsDirectoryBegun v b dir w e w';
 }
 
--- of `report_directory`: the second reading, of the Runs of a known inode, and the lines of the entries. Then these are
+-- of `report_entries`: the second reading, of the Runs of a known inode, and the lines of the entries. Then these are
 -- passed
 abbrev pub entries_task : Layout → Device → (w w' : Workspace) → Directory → (left : ℕ) → DirectoryTask (Unit {0})
 entries_task v d w w' directory left = record {

@@ -57,7 +57,7 @@ fn next_chunk<I: Image>(
 ///
 /// # Errors
 /// A read of the image that failed, and a write of the report that failed.
-pub fn report_directory<I: Image, W: Output>(
+pub fn report_entries<I: Image, W: Output>(
     geometry: &Geometry,
     image: &mut I,
     workspace: &mut Workspace,

@@ -10,7 +10,7 @@ ghost use Rattle.ffs_pathnames.specs.{Tasks.{begin_task, check_task, sized_task}
 ghost use Rattle.ffs_workspace.specs.{Holds.HoldsSurvey, Ready.CanRead};
 ghost use Rattle.ffs_layout.specs.Entry.{entry_value};
 
-use crate::entries::report_directory;
+use crate::entries::report_entries;
 use crate::entry_texts::{Checking, EntryTexts, put_path};
 use crate::header::{HeaderFacts, header_defects, say_header};
 use crate::look::{Directory, Examination, examine};
@@ -166,7 +166,7 @@ fn check_directory<I: Image, W: Output>(
         inode: examined.inode,
         cut: workspace.noted_cut(dir),
     };
-    report_directory(geometry, image, workspace, checking, &directory, report)
+    report_entries(geometry, image, workspace, checking, &directory, report)
 }
 
 /// Makes the first look at a directory, which reads it once, and then says its lines that come

@@ -1,7 +1,7 @@
 -- What a call that only reads the image leaves of a workspace, and how often it reads.
 use Rattle.std.specs.Prelude.{◌≡◌, suc, ◌+◌, ◌*◌, ◌/◌, ◌<◌, ◌≤◌, ℕ, List, Option, Result, Some, true, OnOk, slice_index}
 use Rattle.std.specs.Option.{unwrap_or}
-use Rattle.ffs_image.specs.{Device.{Device, ForContents}, Reads.ReadAfter, declared.image.ImageFault.ImageFault}
+use Rattle.ffs_image.specs.{Device.{Device, ForContents}, Known.IsContents, Reads.ReadAfter, declared.image.ImageFault.ImageFault}
 use Rattle.ffs_volume.specs.declared.{constants.TheConstants.MAXPATHLEN, Layout.Layout}
 use Rattle.ffs_volume.specs.Directories.{Graph.{Graph, level}, Parents.graph_of, Volumes.volume_of}
 use Rattle.ffs_workspace.specs.declared.workspace.Workspace.{Workspace}
@@ -78,10 +78,10 @@ pub record ReadsName {T : Type 0} (v : Layout) (x : ℕ) (old new : WorkMoment) 
 -- the image gives these bytes, the workspace holds what the block check and the survey leave, and
 -- it notes the place of each directory that is reached
 pub record KnowsPlaces (v : Layout) (contents : Option (List ℕ)) (w : Workspace) (b : List ℕ) : Type 0 where
-  pub gives_bytes : contents ≡ Some b
+  pub gives_bytes : IsContents contents b
   pub claims : HoldsClaims v b w
   pub survey : HoldsSurvey v b w
-  pub places : AreNoted v b w.queue.items
+  pub noted : AreNoted v b w.queue.items
 
 -- so many reads were made at most, where each place is noted
 abbrev pub ReadsAtMost : Layout → (most : ℕ) → (old new : WorkMoment) → Type 0

@@ -21,7 +21,7 @@ use ffs_volume::{Order, Role};
 use ffs_workspace::{Workspace, noted_part, part_size};
 
 /// Whether an entry of this role and number names an inode in the directory tree.
-pub fn names(role: Role, number: u32, inode: u32) -> bool
+pub fn is_naming(role: Role, number: u32, inode: u32) -> bool
     ensures { result ≡ (is_plain role && (number == inode)) }
 {
     is_plain(role) && number == inode
@@ -31,7 +31,7 @@ pub fn names(role: Role, number: u32, inode: u32) -> bool
 /// chunk's place in the file, so it is asked as if that weren't the first. Its number is looked at
 /// first, since most entries have another one.
 #[inline(always)]
-fn is_named_by(index: usize, entry: &Entry<'_>, inode: u32) -> bool
+fn is_naming_entry(index: usize, entry: &Entry<'_>, inode: u32) -> bool
     ensures { result ≡ (is_plain (role_of false index (entry_value entry.now))
         && (entry.now.number == inode)) }
 {
@@ -46,7 +46,7 @@ fn find_in_chunk(order: Order, chunk: &[u8; DIRBLKSIZ], number: u32, name: &mut 
 {
     let mut entries = ChunkEntries::of_chunk(order, chunk);
     'entries: while let Some((index, entry)) = entries.next() {
-        if is_named_by(index, &entry, number) {
+        if is_naming_entry(index, &entry, number) {
             name.set(entry.name);
             return true;
         }
@@ -137,7 +137,7 @@ pub fn search_name<I: Image>(
         &mut workspace.windows.blocks,
         &mut workspace.windows.other,
     )? {
-        if names(entry.role, entry.number, dir) {
+        if is_naming(entry.role, entry.number, dir) {
             name.set(entries.name());
             return Ok(());
         }

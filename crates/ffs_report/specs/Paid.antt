@@ -7,7 +7,7 @@ use Rattle.ffs_report.specs.declared.fault.RunFault.TheVariants.{Out}
 
 -- a last message was begun, or none: none at Ok, perhaps one at a read's fault, of which nothing was
 -- said, and at the output's own fault that failed within it
-abbrev pub LastBegun : {T : Type 0} → List Message → Progress → Progress → Result T RunFault → Type 0
+abbrev pub LastBegun : {T : Type 0} → List Message → (old new : Progress) → Result T RunFault → Type 0
 LastBegun last old new (Ok x) = (last ≡ []) × (new ≡ old)
 LastBegun last old new (Err (Read fault)) = new ≡ old
 LastBegun last old new (Err (Out fault)) = Stopped old new last

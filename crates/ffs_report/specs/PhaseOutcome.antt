@@ -8,7 +8,7 @@ use Rattle.ffs_report.specs.{Progress.{Progress, Said, Stopped}, Known.ForBytes,
 use Rattle.ffs_report.specs.declared.fault.RunFault.TheVariants.{Read, Out}
 
 -- a read's fault is given by the image, and no other answer touches the image
-abbrev pub ImageAfter : {T : Type 0} → Device → Device → Result T RunFault → Type 0
+abbrev pub ImageAfter : {T : Type 0} → (old new : Device) → Result T RunFault → Type 0
 ImageAfter old new (Ok x) = new ≡ old
 ImageAfter old new (Err (Read fault)) = Faulted old new fault.sector
 ImageAfter old new (Err (Out fault)) = new ≡ old
@@ -38,14 +38,14 @@ pub record StoppedOf (knows : List ℕ → Type 0) (all : List ℕ → List Mess
   pub stopped : Stopped old new messages
 
 -- all messages at Ok, whole ones at a read's fault, a prefix of their bytes at a fault of the output
-abbrev pub PhaseReports : {T : Type 0} → (List ℕ → Type 0) → (List ℕ → List Message) → Progress → Progress
-    → Result T RunFault → Type 0
+abbrev pub PhaseReports : {T : Type 0} → (List ℕ → Type 0) → (List ℕ → List Message) → (old new : Progress) →
+    Result T RunFault → Type 0
 PhaseReports knows all old new (Ok x) = SaidOf knows (λ bytes. []) all old new
 PhaseReports knows all old new (Err (Read fault)) = SaidPrefixOf knows all old new
 PhaseReports knows all old new (Err (Out fault)) = StoppedOf knows all old new
 
 -- the outcome of saying these messages, by an answer that may be a read's fault: they were said before that
-abbrev pub SaysBeforeFault : {T : Type 0} → List Message → Progress → Progress → Result T RunFault → Type 0
+abbrev pub SaysBeforeFault : {T : Type 0} → List Message → (old new : Progress) → Result T RunFault → Type 0
 SaysBeforeFault messages old new (Ok x) = Said old new messages
 SaysBeforeFault messages old new (Err (Read fault)) = Said old new messages
 SaysBeforeFault messages old new (Err (Out fault)) = Stopped old new messages

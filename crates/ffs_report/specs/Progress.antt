@@ -54,13 +54,13 @@ pub record Stopped (old new : Progress) (messages : List Message) : Type 0 where
   pub cause : (old.failed ≡ true) ⊎ Rose old.sink.failures new.sink.failures
 
 -- the outcome of saying these messages
-abbrev pub Says : {T E : Type 0} → Progress → Progress → List Message → Result T E → Type 0
+abbrev pub Says : {T E : Type 0} → (old new : Progress) → List Message → Result T E → Type 0
 Says old new messages result = MatchResult result (λ _. Said old new messages) (λ _. Stopped old new messages)
 
 -- a message goes out by one put, if its text has less than 2,048 bytes, and by no put once a
 -- line has failed. `unfoldable`, since it is said of each message, and asked of few
-unfoldable pub GoesInOnePut : {W E : Type 0} → (W → List ℕ → Result ℕ E → W → Type 0) → Report W → Report W → Message →
-    Type 0
+unfoldable pub GoesInOnePut : {W E : Type 0} → (W → List ℕ → Result ℕ E → W → Type 0) → (old new : Report W) →
+    Message → Type 0
 GoesInOnePut was_put old new message = MatchBool old.failed (new.out.now ≡ old.out.now)
     (GoesGathered was_put old.out.now new.out.now (text_of message) 2048)
 

@@ -23,19 +23,20 @@ pub record IsCalm (s : CurrentDir) (reached : List Bool) (parents : List ℕ) (e
       → (bool_at reached x ≡ true) × (number_at parents x ≡ s.dir)
 
 -- all directories with a flag are calm
-abbrev pub AreCalm : List ℕ → List Bool → List Bool → List ℕ → (ℕ → List RoledEntry) → (ℕ → Bool) → List Bool → Type 0
+abbrev pub AreCalm : List ℕ → (marked reached : List Bool) → List ℕ → (ℕ → List RoledEntry) → (ℕ → Bool) → List Bool →
+    Type 0
 AreCalm kinds marked reached parents entries right_shape calm =
     (d : ℕ) → bool_at calm d ≡ true
     → IsCalm (dir_by kinds marked parents d) reached parents (entries d) (right_shape d)
 
 -- the flag of d is set where all its entries are calm and its shape is right, and no other flag changes
-abbrev pub IsFlagged : ℕ → Bool → Bool → List Bool → List Bool → Type 0
+abbrev pub IsFlagged : ℕ → (all_calm right_shape : Bool) → (old new : List Bool) → Type 0
 IsFlagged d all_calm right_shape old new =
     (x : ℕ) → bool_at new x ≡ (bool_at old x || ((x == d) && (nat_lt d (length old) && (all_calm && right_shape))))
 
 -- each reached directory that is calm by the parents of what it names has a flag
-abbrev pub EachCalmIsFlagged : List ℕ → List Bool → List Bool → List ℕ → (ℕ → List RoledEntry) → (ℕ → Bool)
-    → List Bool → Type 0
+abbrev pub EachCalmIsFlagged : List ℕ → (marked reached : List Bool) → List ℕ → (ℕ → List RoledEntry) → (ℕ → Bool) →
+    List Bool → Type 0
 EachCalmIsFlagged kinds marked reached parents entries right_shape calm =
     (d : ℕ) → dir_at kinds d ≡ true → bool_at reached d ≡ true
     → is_calm_by_parents kinds marked (number_at parents) (entries d) (right_shape d) d ≡ true → bool_at calm d ≡ true

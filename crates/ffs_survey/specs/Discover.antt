@@ -92,7 +92,7 @@ pub record IsFrontier (g : Graph) (k : ℕ) (xs : List ℕ) : Type 0 where
   pub rising : Rising xs
 
 -- the parents when all levels up to k are known
-abbrev pub parent_at : Graph → ℕ → ℕ → Option ℕ
+abbrev pub parent_at : Graph → (k x : ℕ) → Option ℕ
 parent_at g k x = cond (within g k x) (parent g x) None
 
 -- what is known when all levels up to k are known: which inodes are reached, the parents, and that
@@ -103,7 +103,7 @@ pub record LevelsKnown (g : Graph) (k : ℕ) (reached : List Bool) (parents queu
   pub queued : (x : ℕ) → occurrences x queue ≡ bit (bool_at reached x)
 
 -- how many entries refer to x, in those directories below n that `counts` picks
-unfoldable pub counted_by : (ℕ → Bool) → Graph → ℕ → ℕ → ℕ
+unfoldable pub counted_by : (ℕ → Bool) → Graph → (x zero : ℕ) → ℕ
 counted_by counts g x zero = 0
 counted_by counts g x (suc s) = counted_by counts g x s + (if counts s then counted_in g s x else 0)
 
@@ -123,7 +123,7 @@ abbrev pub is_unreached_dir : List ℕ → List Bool → ℕ → Bool
 is_unreached_dir kinds reached x = dir_at kinds x && not (bool_at reached x)
 
 -- the directory s names the directory x, and neither is reached
-abbrev pub is_unreached_edge : Graph → List ℕ → List Bool → ℕ → ℕ → Bool
+abbrev pub is_unreached_edge : Graph → List ℕ → List Bool → (x s : ℕ) → Bool
 is_unreached_edge g kinds reached x s =
     is_unreached_dir kinds reached x && (not (bool_at reached s) && is_naming_dir g s x)
 

@@ -44,7 +44,7 @@ found_by i l = record {
 }
 
 -- the current directory, by the lists
-abbrev pub current_in : Lists → ℕ → ℕ → CurrentDir
+abbrev pub current_in : Lists → (dir parent : ℕ) → CurrentDir
 current_in l dir parent = record { kinds = l.kinds.now; marked = l.marked.now.items; dir = dir; parent = parent }
 
 -- the current directory, as a call is lent it

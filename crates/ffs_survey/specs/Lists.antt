@@ -37,5 +37,5 @@ pub record AreSurveyed (kinds : List ℕ) (marked named reached : List Bool) (pa
   pub cycles : (x : ℕ) → bool_at leaders x ≡ is_leader_within (parent_in parents) (length parents) x
 
 -- no reference count below n grew by more than `most`
-abbrev pub GrowsBy : ℕ → ℕ → List ℕ → List ℕ → Type 0
+abbrev pub GrowsBy : (n most : ℕ) → (old new : List ℕ) → Type 0
 GrowsBy n most old new = (x : ℕ) → x < n → number_at new x ≤ number_at old x + most

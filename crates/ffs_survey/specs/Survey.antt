@@ -13,7 +13,7 @@ abbrev pub suspect_at : List ℕ → List Bool → ℕ → Bool
 suspect_at kinds marked x = bool_at marked x || is_empty_dir_kind (number_at kinds x)
 
 -- x is dead: suspect, not the root, and not named
-abbrev pub dead_at : List ℕ → List Bool → List Bool → ℕ → Bool
+abbrev pub dead_at : List ℕ → (marked named : List Bool) → ℕ → Bool
 dead_at kinds marked named x = suspect_at kinds marked x && (not (x == ROOTINO) && not (bool_at named x))
 
 -- the graph of the directories of a list of kinds, with these entries
@@ -21,10 +21,10 @@ abbrev pub graph_with : List ℕ → (ℕ → List RoledEntry) → Graph
 graph_with kinds entries = record { count = length kinds; is_dir = dir_at kinds; entries = entries }
 
 -- how many entries of s refer to x, where s is a directory
-abbrev pub counted_in : Graph → ℕ → ℕ → ℕ
+abbrev pub counted_in : Graph → (s x : ℕ) → ℕ
 counted_in g s x = if g.is_dir s then count_by (refers x) (g.entries s) else 0
 
-unfoldable pub counted_below : Graph → ℕ → ℕ → ℕ
+unfoldable pub counted_below : Graph → (x zero : ℕ) → ℕ
 counted_below g x zero = 0
 counted_below g x (suc s) = counted_below g x s + counted_in g s x
 

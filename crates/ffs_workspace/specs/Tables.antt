@@ -24,7 +24,7 @@ pub record HasPiece (v : Layout) (n x : ℕ) : Type 0 where
   pub count : DividesBlock v n
 
 -- the byte where the piece of n inodes of the inode table begins that has the inode x
-abbrev pub table_place : Layout → ℕ → ℕ → ℕ
+abbrev pub table_place : Layout → (n x : ℕ) → ℕ
 table_place v n x = (cgstart v (x / v.ipg) + v.iblkno) * v.fsize + x % v.ipg / n * (n * DINODE_SIZE)
 
 -- a block of the inode table begins in this sector

@@ -38,14 +38,14 @@ is_calm_kind kind reached =
 
 -- a plain entry is a whiteout; or the inode that it names is one of the volume and isn't marked, and
 -- the type of the entry is its kind, and a calm one
-abbrev pub is_calm_plain : List ℕ → List Bool → (ℕ → Bool) → ℕ → ℕ → Bool
+abbrev pub is_calm_plain : List ℕ → List Bool → (ℕ → Bool) → (x kind : ℕ) → Bool
 is_calm_plain kinds marked reached x kind =
     nat_lt x (length kinds) && (((x == WINO) && (kind == DT_WHT)) || (nat_le ROOTINO x && (not (bool_at marked x)
     && ((number_at kinds x == kind) && is_calm_kind kind (reached x)))))
 
 -- an entry at an index of the directory: `.` is the first, `..` the second, and all others are
 -- empty or plain
-abbrev pub is_calm_role : CurrentDir → (ℕ → Bool) → ℕ → Role → ℕ → ℕ → Bool
+abbrev pub is_calm_role : CurrentDir → (ℕ → Bool) → ℕ → Role → (number kind : ℕ) → Bool
 is_calm_role current reached i Dot number kind = (i == 0) && ((number == current.dir) && (kind == DT_DIR))
 is_calm_role current reached i Dotdot number kind = (i == 1) && ((number == current.parent) && (kind == DT_DIR))
 is_calm_role current reached i Extra number kind = false

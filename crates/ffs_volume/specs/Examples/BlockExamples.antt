@@ -15,7 +15,7 @@ use Rattle.ffs_volume.specs.{Groups.GroupCheck.{reported_once, unreported}, Exam
 use Rattle.ffs_volume.specs.Examples.Images.{base_layout, base_image, two_groups}
 
 -- an inode of this mode and size with these addresses, and zeros after them
-unfoldable pub inode : ℕ → ℕ → List ℕ → Inode
+unfoldable pub inode : (mode size : ℕ) → List ℕ → Inode
 inode mode size addresses = record {
   mode = mode;
   nlink = pos 1;
@@ -30,7 +30,7 @@ inode mode size addresses = record {
 unfoldable pub file_inode : ℕ → List ℕ → Inode
 file_inode size addresses = inode 33188 size addresses
 
-unfoldable pub words_at : Order → List ℕ → List ℕ → List ℕ
+unfoldable pub words_at : Order → (first second : List ℕ) → List ℕ
 words_at order first second = zero_bytes 40960 ++ (first ++ (zero_bytes (4096 - length first) ++ second))
 
 -- the classes of inodes

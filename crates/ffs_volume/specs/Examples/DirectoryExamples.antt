@@ -25,7 +25,7 @@ use Rattle.ffs_volume.specs.Messages.Kinds.{of_directory}
 use Rattle.ffs_volume.specs.Messages.Kinds.{of_reference}
 
 -- the bytes of an entry: its number, length, type and name
-unfoldable pub entry_bytes : Order → ℕ → ℕ → ℕ → List ℕ → List ℕ
+unfoldable pub entry_bytes : Order → (x n kind : ℕ) → List ℕ → List ℕ
 entry_bytes o x n kind name = word o x ++ (bytes_in o 2 n ++
     (kind ∷ length name ∷ (name ++ zero_bytes (n - 8 - length name))))
 
@@ -41,10 +41,10 @@ abbrev pub two_dots : List ℕ
 two_dots = 46 ∷ 46 ∷ []
 
 -- an entry with a record of 12 bytes, and one of 500, which fills the chunk after it
-unfoldable pub entry : ℕ → ℕ → List ℕ → Entry
+unfoldable pub entry : (x kind : ℕ) → List ℕ → Entry
 entry x kind name = record { number = x; length = 12; kind = kind; name = name }
 
-abbrev pub last_entry : ℕ → ℕ → List ℕ → Entry
+abbrev pub last_entry : (x kind : ℕ) → List ℕ → Entry
 last_entry x kind name = record { number = x; length = 500; kind = kind; name = name }
 
 -- a directory of two chunks at fragment 2, of which `taken` bytes are read
@@ -105,7 +105,7 @@ pub record EntryExamples : Type 0 where
   pub roles_plain : (role_of true 0 (entry 2 4 (97 ∷ [])) ≡ Plain) × (role_of true 0 (entry 0 4 one_dot) ≡ Empty)
 
 -- `.`, `..` and further entries
-unfoldable pub dots : ℕ → ℕ → List Entry → List Entry
+unfoldable pub dots : (d up : ℕ) → List Entry → List Entry
 dots d up rest = entry d 4 one_dot ∷ entry up 4 two_dots ∷ rest
 
 -- one chunk, which these entries fill

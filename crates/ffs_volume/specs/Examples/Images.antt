@@ -6,7 +6,7 @@ use Rattle.ffs_volume.specs.declared.{Order.{Order, TheVariants.{Little, Big}}, 
 use Rattle.ffs_volume.specs.Disk.{Superblock.Superblock, Outcome.outcome}
 
 -- a number in n bytes, a number in four bytes, and n bytes of zero
-unfoldable pub bytes_in : Order → ℕ → ℕ → List ℕ
+unfoldable pub bytes_in : Order → (n number : ℕ) → List ℕ
 bytes_in Little n number = little_bytes n number
 bytes_in Big n number = big_bytes n number
 
@@ -74,7 +74,7 @@ base_super o =
     ++ (word o 1 ++ (zero_bytes 12 ++ word o 72020))))))))))))))))))))))))))))))))))))))))))
 
 -- the bytes, with another number of four bytes at a place
-unfoldable pub changed : Order → ℕ → ℕ → List ℕ → List ℕ
+unfoldable pub changed : Order → (place number : ℕ) → List ℕ → List ℕ
 changed order place number bytes = take place bytes ++ (word order number ++ drop (place + 4) bytes)
 
 -- an image of 131,072 bytes with a superblock and a copy of it

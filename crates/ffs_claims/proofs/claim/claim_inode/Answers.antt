@@ -18,13 +18,13 @@ pub returns-clause-claims : goal.returns-clause-claims
 unfolding owner_of
 returns-clause-claims g c = grind (arith, reports_same)
 
-pub returns-in_err-inode-clause-table : goal.returns-in_err-inode-clause-table
+pub returns-in_err-inode-clause-by_block : goal.returns-in_err-inode-clause-by_block
 unfolding TakesPiece
-returns-in_err-inode-clause-table g c = grind arith
+returns-in_err-inode-clause-by_block g c = grind arith
 
-pub returns-clause-table : goal.returns-clause-table
+pub returns-clause-by_block : goal.returns-clause-by_block
 unfolding TakesPiece owner_of
-returns-clause-table g c =
+returns-clause-by_block g c =
     let v = c.args.geometry.now.layout in
     let s = claims_of c.args.workspace.now in
     let gives = ap (λ d. d.contents) c.in_ok-inode.ensures.reads.read in

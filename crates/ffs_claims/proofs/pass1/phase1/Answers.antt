@@ -124,13 +124,13 @@ loop-number-preserved g c =
     (said_knows _ _ _ _ _ _ (λ bytes k. contents ∙ k.0) c.in_ok-claim_inode.ensures.claims.text) in
     let runs : w.runs_seen ≤ used_bits s' + 22 * (n + 1 - 2) =
     omega (arith, inv.runs, inv.low, c.in_ok-claim_inode.ensures.claims.left.runs_claim) in
-    let reads = blocks_next c.args.geometry.now.sound c.claim_inode.ensures.table.again
-    c.in_ok-claim_inode.ensures.table.block c.claim_inode.ensures.claims.left.counted inv.reads in
+    let reads = blocks_next c.args.geometry.now.sound c.claim_inode.ensures.by_block.again
+    c.in_ok-claim_inode.ensures.by_block.block c.claim_inode.ensures.claims.left.counted inv.reads in
     let known : ForBytes (WithFresh v (g.I.Image.device c.args.image.now) c.args.workspace.now)
     (λ bytes. VolumeRead v bytes s' (n + 1) (g.I.Image.reads c.args.image.now) (g.I.Image.reads c.claim_inode.new.image)
     w.windows.table) = λ bytes k. read_next c.args.geometry.now.sound lt (now bytes (contents ∙ k.0))
-    (λ held. (c.claim_inode.ensures.table.again held).0)
-    (λ held. c.claim_inode.ensures.table.known held bytes (contents ∙ k.0)) c.in_ok-claim_inode.ensures.table.block
+    (λ held. (c.claim_inode.ensures.by_block.again held).0)
+    (λ held. c.claim_inode.ensures.by_block.known held bytes (contents ∙ k.0)) c.in_ok-claim_inode.ensures.by_block.block
     (c.claim_inode.ensures.claims.known bytes (contents ∙ k.0)) (inv.known bytes k) in
     let heading = heading_part _ _ {x = tt {0}} (Ok (tt {0})) inv.heading c.in_ok-claim_inode.ensures.claims.text in
     elim (cases_lt (n + 1) next) [
@@ -218,7 +218,7 @@ returns-in_err-claim_inode-clause-reads g c =
     let most = numbers_most c.loop-number.number _ inv.high in
     record {
       runs = omega (arith, inv.runs, left.bound, most);
-      reads = blocks_failed c.claim_inode.new.workspace.runs_seen c.args.geometry.now.sound (omega arith) c.claim_inode.ensures.table.again left.counted
+      reads = blocks_failed c.claim_inode.new.workspace.runs_seen c.args.geometry.now.sound (omega arith) c.claim_inode.ensures.by_block.again left.counted
           inv.reads;
       most = λ bytes k.
           let n = c.loop-number.number in
@@ -228,7 +228,7 @@ returns-in_err-claim_inode-clause-reads g c =
           let rest = runs_most c.args.geometry.now.layout bytes (n + 1) (omega arith) (λ h. omega arith) in
           omega (arith, next, before, rest, c.claim_inode.ensures.claims.most bytes (contents ∙ k.0));
       known = λ bytes k. read_failed c.args.geometry.now.sound (omega arith)
-          (λ held. c.claim_inode.ensures.table.known held bytes (contents ∙ k.0))
+          (λ held. c.claim_inode.ensures.by_block.known held bytes (contents ∙ k.0))
           (c.claim_inode.ensures.claims.known bytes (contents ∙ k.0)) (inv.known bytes k);
     }
 

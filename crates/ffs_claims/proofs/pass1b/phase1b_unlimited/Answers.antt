@@ -113,7 +113,7 @@ returns-in_err-rewalk_inode-clause-reads g c =
     let inv = c.loop-number.invariant in
     let n = c.loop-number.number in
     let did = c.rewalk_inode.ensures.walks in
-    let table = c.rewalk_inode.ensures.table in
+    let table = c.rewalk_inode.ensures.by_block in
     let notes = c.loop-number.workspace.notes.items in
     let image = ap (λ d. d.contents) inv.device in
     let last : n < inodes_of v = omega arith in
@@ -150,7 +150,7 @@ loop-number-preserved g c =
     let notes = c.loop-number.workspace.notes.items in
     let image = ap (λ d. d.contents) inv.device in
     let rewalks = c.in_ok-rewalk_inode.ensures.walks in
-    let table = c.in_ok-rewalk_inode.ensures.table in
+    let table = c.in_ok-rewalk_inode.ensures.by_block in
     let noted : ForBytes (WithNotes v (g.I.Image.device c.args.image.now) c.args.workspace.now)
     (λ bytes. IsNoted v bytes notes n) = λ bytes k. is_noted sound inv.low (omega arith) inv.claims k.1 in
     let left : ForBytes (WithPhase1 v (g.I.Image.device c.args.image.now) c.args.workspace.now)

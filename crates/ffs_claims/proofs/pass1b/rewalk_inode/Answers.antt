@@ -13,16 +13,16 @@ rewalk-requires g c = grind arith
 pub returns-in_err-inode-clause-walks : goal.returns-in_err-inode-clause-walks
 returns-in_err-inode-clause-walks g c = grind (arith, reads_first, part_none)
 
-pub returns-in_err-inode-clause-table : goal.returns-in_err-inode-clause-table
+pub returns-in_err-inode-clause-by_block : goal.returns-in_err-inode-clause-by_block
 unfolding TakesPiece
-returns-in_err-inode-clause-table g c = grind arith
+returns-in_err-inode-clause-by_block g c = grind arith
 
 pub returns-clause-walks : goal.returns-clause-walks
 returns-clause-walks g c = grind arith
 
-pub returns-clause-table : goal.returns-clause-table
+pub returns-clause-by_block : goal.returns-clause-by_block
 unfolding TakesPiece
-returns-clause-table g c =
+returns-clause-by_block g c =
     let v = c.args.geometry.now.layout in
     let gives = ap (λ d. d.contents) c.in_ok-inode.ensures.reads.read in
     let did = c.rewalk.ensures in

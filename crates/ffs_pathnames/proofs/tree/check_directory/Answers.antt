@@ -13,7 +13,7 @@ use Rattle.ffs_pathnames.proofs.Begun.{directory_is, lines_parts, quiet_parts, r
 use Rattle.ffs_pathnames.proofs.{Begun.{reported_after, starts_within}, Passing.knows_on, StampLaws.keep_more}
 use Rattle.ffs_pathnames.proofs.{StampLaws.noted_kept, LineCounts.{checked_twice, lines_long}, Carrying.if_ok}
 use Rattle.ffs_pathnames.{proofs.ChecksNeededLaws.flags_after, specs.ReadsLeft.{LeftForBoth, LeftForLook, LeftForRuns}}
-use Rattle.ffs_pathnames.proofs.tree.check_directory.{Given.Over, Goals.{After-begin_directory, After-report_directory}}
+use Rattle.ffs_pathnames.proofs.tree.check_directory.{Given.Over, Goals.{After-begin_directory, After-report_entries}}
 use Rattle.ffs_names.proofs.DirCosts.{cost_is as cost_of_dir}
 use Rattle.ffs_pathnames.proofs.tree.check_directory.Goals as goal
 
@@ -27,7 +27,7 @@ first : {v : Layout} {d : Device} {w : Workspace} {x left : ℕ} {b : List ℕ} 
 first k = (k.knows, omega (arith, k.enough))
 
 -- and what it leaves for the second
-second : (g : Over) (c : After-report_directory g) (b : List ℕ) →
+second : (g : Over) (c : After-report_entries g) (b : List ℕ) →
     LeftForBoth c.args.geometry.now.layout (g.I.Image.device c.args.image.now) c.args.workspace.now c.args.dir
     c.args.checking.now.reads_left b →
     LeftForRuns c.args.geometry.now.layout (g.I.Image.device c.begin_directory.new.image)
@@ -46,8 +46,8 @@ second g c b k =
       omega (arith, k.enough, kept, cost_of_dir v b c.args.dir k.knows.dir),
     )
 
-pub report_directory-requires : goal.report_directory-requires
-report_directory-requires g c = grind arith
+pub report_entries-requires : goal.report_entries-requires
+report_entries-requires g c = grind arith
 
 pub returns-in_err-examined-clause-lines : goal.returns-in_err-examined-clause-lines
 returns-in_err-examined-clause-lines g c =
@@ -104,16 +104,16 @@ returns-clause-lines g c =
     let before = passed_of c.args.workspace.now in
     let m = passed_of c.begin_directory.new.workspace in
     let one = c.in_ok-examined.ensures in
-    let two = c.report_directory.ensures.lines in
-    let second_of = second g at.After-report_directory in
+    let two = c.report_entries.ensures.lines in
+    let second_of = second g at.After-report_entries in
     let dir = λ (b : List ℕ) (k : Known g at.After-begin_directory b).
     directory_is (volume_of v b) c.args.dir c.requires.low k.knows.dir in
     let parts = λ (b : List ℕ) (k : Known g at.After-begin_directory b).
     reported_parts (volume_of v b) c.args.dir before m (dir b k) k.passed (one.holds b (first k)).passed in
     record {
-      text = of_last _ _ _ _ _ _ _ _ c.report_directory.result
+      text = of_last _ _ _ _ _ _ _ _ c.report_entries.result
           (of_part _ _ _ _ _ _ _ _ (of_begins _ _ _) parts (said_knows _ _ _ _ _ _ (λ b k. first k) one.text))
-          (λ b k. refl) (reports_knowing _ _ _ _ _ _ c.report_directory.result second_of two.text);
+          (λ b k. refl) (reports_knowing _ _ _ _ _ _ c.report_entries.result second_of two.text);
       reads = λ b k noted.
           checked_twice line_reads _ _ _ (directory_cost v b c.args.dir) (directory_runs v b c.args.dir)
           (length (dir_header_lines (volume_of v b) c.args.dir))
@@ -126,7 +126,7 @@ returns-clause-lines g c =
           let cost = cost_of_dir v b c.args.dir k.knows.dir in
           omega (arith, one.spends b (first k), two.spends b (second_of b k), cost);
       paid = paid_then one.paid two.paid;
-      holds = if_ok c.report_directory.result _ _
+      holds = if_ok c.report_entries.result _ _
           (λ x p b k. (
             reported_after (volume_of v b) c.args.dir before m _ (dir b k) k.passed
                 (one.holds b (first k)).passed (p b (second_of b k)),
@@ -137,7 +137,7 @@ returns-clause-lines g c =
                 (flags_after (volume_of v b) c.args.dir m (roled_entries (volume_of v b) c.args.dir) y mid),
           )) two.holds;
       leaves = record {
-        image = subst (λ d. ImageAfter d (g.I.Image.device c.report_directory.new.image) c.report_directory.result)
+        image = subst (λ d. ImageAfter d (g.I.Image.device c.report_entries.new.image) c.report_entries.result)
             one.leaves.image two.leaves.image;
         survey = leaves_more _ _ _ one.leaves.survey two.leaves.survey;
         places = keep_more _ _ _ one.leaves.places two.leaves.places;

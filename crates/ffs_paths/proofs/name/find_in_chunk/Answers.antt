@@ -3,9 +3,9 @@ use Rattle.ffs_layout.specs.Entry.{entry_value}
 use Rattle.ffs_paths.proofs.ChunkNames.{chunk_here, chunk_past, named_none, plain_named}
 use Rattle.ffs_paths.proofs.name.find_in_chunk.Goals as goal
 
-pub returns-then-is_named_by : goal.returns-then-is_named_by
-returns-then-is_named_by c =
-    let this = sym c.is_named_by.ensures ∙ c.if-is_named_by.true in
+pub returns-then-is_naming_entry : goal.returns-then-is_naming_entry
+returns-then-is_naming_entry c =
+    let this = sym c.is_naming_entry.ensures ∙ c.if-is_naming_entry.true in
     let inv = c.entries.invariant in
     let there = c.in-Some.ensures.steps.there in
     record {
@@ -21,7 +21,7 @@ returns c = grind (arith, both_ways, named_none)
 
 pub entries-preserved : goal.entries-preserved
 entries-preserved c =
-    let past = chunk_past c.args.number c.in-Some.ensures.steps (sym c.is_named_by.ensures ∙ c.if-is_named_by.false) in
+    let past = chunk_past c.args.number c.in-Some.ensures.steps (sym c.is_naming_entry.ensures ∙ c.if-is_naming_entry.false) in
     let inv = c.entries.invariant in
     record {
       chunk = ap (λ x. x.now) c.in-Some.ensures.steps.same.1 ∙ inv.chunk;

@@ -1,6 +1,6 @@
 use Rattle.std.proofs.Common.{◌≡◌, ◌≤◌, ◌+◌, [], Ok}
 use Rattle.ffs_image.specs.{Device.ForContents, Known.ForBytes}
-use Rattle.ffs_names.specs.{Costs.{HoldsEntries, reads_for_entries}, Entering.{to_come, left}}
+use Rattle.ffs_names.specs.{Costs.{HoldsEntries, reads_for_entries}, Entering.{to_come, most_to_come}}
 use Rattle.ffs_volume.specs.Report.DirectoryReads.{directory_runs}
 use Rattle.ffs_workspace.specs.Found.{WithClaims}
 use Rattle.ffs_paths.specs.{Climbing.name_in, NameTexts.name_bytes, Reads.OnlyReads}
@@ -21,4 +21,4 @@ invariant-entries g l = let device = g.I.Image.device in record {
 }
 
 abbrev pub decreases-entries : goal.decreases-entries
-decreases-entries g l = left l.entries
+decreases-entries g l = most_to_come l.entries

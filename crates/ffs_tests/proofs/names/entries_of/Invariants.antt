@@ -1,5 +1,5 @@
 use Rattle.std.proofs.Common.{◌≡◌}
-use Rattle.ffs_names.specs.{Entering.left, Windows.CanReadChunks}
+use Rattle.ffs_names.specs.{Entering.most_to_come, Windows.CanReadChunks}
 use Rattle.ffs_tests.proofs.names.entries_of.Given as goal
 
 abbrev pub invariant-entries : goal.invariant-entries
@@ -10,4 +10,4 @@ invariant-entries g l = record {
 }
 
 abbrev pub decreases-entries : goal.decreases-entries
-decreases-entries g l = left l.entries
+decreases-entries g l = most_to_come l.entries

@@ -1,7 +1,7 @@
 use Rattle.std.proofs.Common.{◌≡◌, ◌≤◌, ◌<◌, ◌+◌}
 use Rattle.ffs_image.specs.Device.{ForContents}
 use Rattle.ffs_names.specs.{Costs.HoldsEntries, Costs.reads_for_entries, Readings.CountsEach, Shapes.has_right_shape}
-use Rattle.ffs_names.specs.{Entering.{to_come, left, IsInside, IsHeldIfLeft}, Leaves.most_left, Windows.CanReadChunks}
+use Rattle.ffs_names.specs.{Entering.{to_come, most_to_come, IsInside, IsHeldIfLeft}, Leaves.most_left, Windows.CanReadChunks}
 use Rattle.ffs_names.proofs.entries.Entries.advance.Given as goal
 
 abbrev pub invariant-chunks : goal.invariant-chunks
@@ -16,7 +16,7 @@ invariant-chunks g l = record {
       ≤ g.I.Image.reads l.fn.image + reads_for_entries b l.fn.self) × HoldsEntries l.blocks l.window l.self);
   any : g.I.Image.reads l.image + most_left l.self.chunks
       ≤ g.I.Image.reads l.fn.image + most_left l.fn.self.chunks;
-  left : left l.self ≤ left l.fn.self;
+  left : most_to_come l.self ≤ most_to_come l.fn.self;
   runs : l.fn.self.chunks.runs ≤ l.self.chunks.runs;
   each : ForContents (g.I.Image.device l.fn.image).contents (λ b. CountsEach b l.fn.self.chunks l.self.chunks);
   geometry : l.self.chunks.walk.geometry ≡ l.fn.self.chunks.walk.geometry;

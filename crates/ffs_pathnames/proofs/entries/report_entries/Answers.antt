@@ -14,8 +14,8 @@ use Rattle.ffs_pathnames.{specs.PassedNames.entries_reported, proofs.StampLaws.{
 use Rattle.ffs_pathnames.proofs.{Begun.image_same, Passing.{chunk_reported, chunk_passed, knows_on, all_read}}
 use Rattle.ffs_pathnames.{proofs.ReadyLaws.{can_read_in, windows_next, windows_read}, specs.ReadsLeft.LeftForRuns}
 use Rattle.ffs_pathnames.proofs.{LineCounts.lines_long, SeesLaws.cut_here}
-use Rattle.ffs_pathnames.proofs.entries.report_directory.{Given.Over, Goals.After-next_chunk}
-use Rattle.ffs_pathnames.proofs.entries.report_directory.Goals as goal
+use Rattle.ffs_pathnames.proofs.entries.report_entries.{Given.Over, Goals.After-next_chunk}
+use Rattle.ffs_pathnames.proofs.entries.report_entries.Goals as goal
 
 -- what is known of the bytes, at the beginning
 abbrev Known : (g : Over) → After-next_chunk g → List ℕ → Type 0

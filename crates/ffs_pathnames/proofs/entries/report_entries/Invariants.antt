@@ -8,7 +8,7 @@ use Rattle.ffs_pathnames.specs.PassedNames.{after_entries, entries_reported}
 use Rattle.ffs_report.specs.{Known.ForBytes, Paid.Paid, PhaseOutcome.SaidOf, Progress.progress}
 use Rattle.ffs_names.specs.{Readings.rest, Costs.{to_read, HoldsReading}}
 use Rattle.ffs_workspace.specs.Leaves.{LeavesSurvey}
-use Rattle.ffs_pathnames.proofs.entries.report_directory.Given as goal
+use Rattle.ffs_pathnames.proofs.entries.report_entries.Given as goal
 
 abbrev pub invariant-chunks : goal.invariant-chunks
 invariant-chunks g l =
