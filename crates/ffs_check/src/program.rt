@@ -1,5 +1,5 @@
-//! What the programs have in common: each reads its words, opens the image that they name, and looks
-//! at it. `run` runs one, and `specs/Program.antt` says what each promises.
+//! What the programs have in common: each reads its words, opens the image that they name, and
+//! looks at it. `run` runs one, and `specs/Program.antt` says what each promises.
 ghost use Rattle.std.specs.Prelude.{◌≡◌, map, MatchResult};
 ghost use Rattle.ffs_check.specs.{Moment.moment, Program.Meaning, Refusals.IsNotAsked};
 

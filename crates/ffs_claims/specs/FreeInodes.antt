@@ -12,7 +12,8 @@ is_free_by inode = not (any_nonzero (slice_range inode 0 16)) && not (any_nonzer
 
 -- the bytes of the inode x in the window
 abbrev pub inode_bytes : Table → ℕ → List ℕ
-inode_bytes t x = slice_range (held_bytes t.window) (DINODE_SIZE * (x - t.first)) (DINODE_SIZE * (x - t.first) + DINODE_SIZE)
+inode_bytes t x =
+    slice_range (held_bytes t.window) (DINODE_SIZE * (x - t.first)) (DINODE_SIZE * (x - t.first) + DINODE_SIZE)
 
 -- the window on the inode table has the bytes of each inode that it holds
 pub record HasTableInodes (t : Table) : Type 0 where

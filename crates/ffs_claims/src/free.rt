@@ -20,10 +20,10 @@ const ADDRESSES: usize = 40;
 /// Where its flags end, which lie after the addresses.
 const FLAGS_END: usize = 104;
 
-/// Whether an inode is free by its bytes: none of those of its mode, its size and its addresses is set,
-/// nor of what lies beside, so that whole sixteens of bytes are looked at together. A number is zero
-/// where each of its bytes is, in either byte order. Other bytes aren't asked: newfs(8) gives free
-/// inodes a generation number too.
+/// Whether an inode is free by its bytes: none of those of its mode, its size and its addresses is
+/// set, nor of what lies beside, so that whole sixteens of bytes are looked at together. A number
+/// is zero where each of its bytes is, in either byte order. Other bytes aren't asked: newfs(8)
+/// gives free inodes a generation number too.
 #[inline(always)]
 fn is_free(inode: &[u8]) -> bool
     requires { length inode.now ≡ DINODE_SIZE }

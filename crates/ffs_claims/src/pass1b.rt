@@ -153,10 +153,10 @@ fn phase1b_unlimited<I: Image, W: Output>(
 /// Walks over the blocks of the inodes again, until each fragment with a DUP line has its first
 /// kept offer reported: by a DUP line for the first inode that keeps an offer of it.
 ///
-/// The contract gives the text for a workspace as phase 1 left it, and after a fault once more: what
-/// is left is reported then. No more reads are made than those of a sweep (`sweep_reads`): where an
-/// image that gives other bytes each time asks for more, it ends there with `Ok`, and what is left
-/// isn't reported.
+/// The contract gives the text for a workspace as phase 1 left it, and after a fault once more:
+/// what is left is reported then. No more reads are made than those of a sweep (`sweep_reads`):
+/// where an image that gives other bytes each time asks for more, it ends there with `Ok`, and what
+/// is left isn't reported.
 ///
 /// # Errors
 /// A read of the image that failed, and a write of the report that failed.

@@ -87,8 +87,8 @@ fn store_note(list: &mut FilledList<u32>, number: usize, note: u32)
     }
 }
 
-/// Sets where the count of an inode's references starts. That isn't 0 where the inode is in use: for
-/// others memory is touched only where the list has another number.
+/// Sets where the count of an inode's references starts. That isn't 0 where the inode is in use:
+/// for others memory is touched only where the list has another number.
 #[inline(always)]
 fn store_start(list: &mut FilledList<u64>, number: usize, class: Class, inode: &Inode)
     requires { number < vec_len list.old }

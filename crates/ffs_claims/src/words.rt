@@ -1,13 +1,14 @@
-//! The words of an indirect block, and the direct addresses of an inode, that are claimed with nothing
-//! to report. The single indirect block that a walk is in is the lowest one, with addresses of data:
-//! that of the inode's thirteenth address, or any that is under a double one (`Walk::single`).
+//! The words of an indirect block, and the direct addresses of an inode, that are claimed with
+//! nothing to report. The single indirect block that a walk is in is the lowest one, with addresses
+//! of data: that of the inode's thirteenth address, or any that is under a double one
+//! (`Walk::single`).
 //!
-//! From `claim_words` up: it asks whether the block is held; `claim_held_words` takes
-//! the counts out of the workspace, and `claim_counted_words` asks for the byte order, both once;
-//! `claim_words_in` goes from word to word. `claim_next` claims one word by `claim_address`, or, where
-//! the next one names the fragments after its Run, all such words together by `claim_series`, which
-//! `pass_series` counts. Where a word isn't claimed, nothing has changed, and the caller takes it as a
-//! step. Below it `claim_direct` does the same for direct addresses, one by one.
+//! From `claim_words` up: it asks whether the block is held; `claim_held_words` takes the counts
+//! out of the workspace, and `claim_counted_words` asks for the byte order, both once;
+//! `claim_words_in` goes from word to word. `claim_next` claims one word by `claim_address`, or,
+//! where the next one names the fragments after its Run, all such words together by `claim_series`,
+//! which `pass_series` counts. Where a word isn't claimed, nothing has changed, and the caller
+//! takes it as a step. Below it `claim_direct` does the same for direct addresses, one by one.
 
 ghost use Rattle.std.specs.Prelude.{◌≡◌, ◌≢◌, ◌^◌, ◌<◌, false, IsTrue};
 ghost use Rattle.ffs_volume.specs.declared.Layout.{Layout};
@@ -101,9 +102,9 @@ fn comes_next(order: Order, walk: &Walk, blocks: &Blocks, address: u64) -> bool
     walk.has_word() && u64::from(walk.next_address(order, blocks)) == address
 }
 
-/// Passes over the next words of the single indirect block that the walk is in, as long as they name
-/// Runs in turn, from an address on, that lie in one word of the map. Returns how many fragments
-/// these Runs have.
+/// Passes over the next words of the single indirect block that the walk is in, as long as they
+/// name Runs in turn, from an address on, that lie in one word of the map. Returns how many
+/// fragments these Runs have.
 #[inline(always)]
 fn pass_series(order: Order, walk: &mut Walk, blocks: &Blocks, address: u32) -> u32
     requires some { address ≢ 0 }
@@ -243,8 +244,8 @@ fn claim_held_words(workspace: &mut Workspace, area: &DataArea, walk: &mut Walk)
     requires held { IsInHeldBlock workspace.old.windows.blocks walk.old }
     ensures { ClaimsWords walk.old.geometry.layout workspace.old workspace.new walk.old walk.new }
 {
-    // What each word asks for or changes is a local value, which no write to the map can change, and
-    // is written back once.
+    // What each word asks for or changes is a local value, which no write to the map can change,
+    // and is written back once.
     let area = *area;
     let mut passing = *walk;
     let mut counts = RunCounts::of(workspace);

@@ -61,8 +61,8 @@ pub fn phase3<I: Image, W: Output>(
         (progress W.sink report.new) result }
     ensures leaves { LeavesSurvey workspace.old workspace.new }
 
-    // Known bytes are read at most once for each of their lines, and any image once for each message
-    // that was begun.
+    // Known bytes are read at most once for each of their lines, and any image once for each
+    // message that was begun.
     ensures reads { ForBytes (WithSurvey geometry.now.layout (I.device image.old) workspace.old)
         (λ bytes. I.reads image.new ≤ I.reads image.old + length
         (connectivity_lines (volume_of geometry.now.layout bytes))) }

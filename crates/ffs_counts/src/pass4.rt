@@ -219,8 +219,8 @@ pub fn phase4<I: Image, W: Output>(
         (progress W.sink report.new) result }
     ensures leaves { workspace.new ≡ record workspace.old { windows = workspace.new.windows } }
 
-    // Known bytes are read at most once for each of their lines, and any image once for each message
-    // that was begun.
+    // Known bytes are read at most once for each of their lines, and any image once for each
+    // message that was begun.
     ensures reads { ForBytes (WithFindings geometry.now.layout (I.device image.old) workspace.old)
         (λ bytes. I.reads image.new ≤ I.reads image.old + length
         (reference_lines (volume_of geometry.now.layout bytes))) }

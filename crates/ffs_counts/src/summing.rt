@@ -61,8 +61,8 @@ fn claimed_count(geometry: &Geometry, used: &FragmentMap) -> u32
     used.count_ones().saturating_sub(reserved_count(geometry))
 }
 
-/// Free fragments in all: the loose ones, and those of free blocks. `frag`, at most 8, is a byte, so
-/// that 64 bits have room for the sum whatever the counts are.
+/// Free fragments in all: the loose ones, and those of free blocks. `frag`, at most 8, is a byte,
+/// so that 64 bits have room for the sum whatever the counts are.
 fn free_in_all(frags: i32, frag: u8, blocks: i32) -> i64
     ensures { result ≡ frags +ℤ pos frag *ℤ blocks }
 {
@@ -98,9 +98,9 @@ fn summary_line(superblock: &Super, files: u32, claimed: u32) -> Line<'static>
 /// The summary (fsck(8)): files, claimed fragments (reserved ones don't count), and what is free by
 /// the superblock's own counts.
 ///
-/// Files are counted by the kinds in the workspace, and claimed fragments by its map, where that has
-/// the reserved ones: so the text is that of an image's bytes where the workspace holds what the
-/// block check found in them.
+/// Files are counted by the kinds in the workspace, and claimed fragments by its map, where that
+/// has the reserved ones: so the text is that of an image's bytes where the workspace holds what
+/// the block check found in them.
 ///
 /// # Errors
 /// A write of the report that failed.

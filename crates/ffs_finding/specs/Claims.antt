@@ -30,6 +30,7 @@ TakesClaims v d d' before after (Ok w) =
     (d' ≡ d) × Granted before after (held_of v) × IsReady v d' w
     × ForBytes (IsContents d.contents) (λ b. HoldsPhase1 v b w)
 TakesClaims v d d' before after (Err (Refused fault)) = ⊥
-TakesClaims v d d' before after (Err (Failed (Read fault))) = Faulted d d' fault.sector × Granted before after (held_of v)
+TakesClaims v d d' before after (Err (Failed (Read fault))) =
+    Faulted d d' fault.sector × Granted before after (held_of v)
 TakesClaims v d d' before after (Err (Failed (Out fault))) = ⊥
 TakesClaims v d d' before after (Err NoMemory) = (d' ≡ d) × GaveUp before after (held_of v)

@@ -30,7 +30,8 @@ impl Output for Discarding {
     }
 }
 
-/// Takes the memory of a check of a volume, and runs phase 1 in it, over an output that drops its lines.
+/// Takes the memory of a check of a volume, and runs phase 1 in it, over an output that drops its
+/// lines.
 ///
 /// # Errors
 /// The memory was refused, or a read of the image failed.

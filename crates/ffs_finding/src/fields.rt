@@ -1,4 +1,5 @@
-//! `fields`: fields of the superblock that a kernel computes with, and that a check doesn't look at.
+//! `fields`: fields of the superblock that a kernel computes with, and that a check doesn't look
+//! at.
 ghost use Rattle.std.specs.{Prelude.{◌≡◌, ◌+◌, ◌*◌, ◌^◌, ◌≤◌, ◌<◌, length, map}, Int.{cast_signed, div_ceil}};
 ghost use Rattle.ffs_volume.specs.Disk.{Numbers.u64_at as u64_in, Outcome.super_sector};
 ghost use Rattle.ffs_volume.specs.{declared.constants.TheConstants.{DEV_BSIZE, SBSIZE}, Find.Fields.exponent_of};
@@ -175,8 +176,8 @@ fn print_wrong_fields<W: Output>(
     Ok(any)
 }
 
-/// Prints which fields of an accepted superblock, at a sector or at the usual place, aren't what its
-/// layout gives (fs(5)), and returns whether there is one. At most one read.
+/// Prints which fields of an accepted superblock, at a sector or at the usual place, aren't what
+/// its layout gives (fs(5)), and returns whether there is one. At most one read.
 ///
 /// # Errors
 /// A read of the image that failed, and a write that failed.

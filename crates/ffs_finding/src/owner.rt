@@ -217,7 +217,8 @@ fn indirect_in(step: Step) -> u64
     }
 }
 
-/// Walks over the blocks of an inode, and prints a line for each offer of the fragment that it keeps.
+/// Walks over the blocks of an inode, and prints a line for each offer of the fragment that it
+/// keeps.
 #[tactic(auto, using(crate::proofs::Walking::blocks_then))]
 fn print_kept<I: Image, W: Output>(
     geometry: &Geometry,
@@ -339,13 +340,13 @@ fn find_keepers<I: Image, W: Output>(
 }
 
 /// Prints to what a fragment belongs: what it is where it is reserved, else the inodes that keep an
-/// offer of it, ascending, each with the logical block or the indirect block, else whether the map of
-/// its cylinder group (fs(5)) has it as free, or it is lost. Nothing is printed for a fragment that
-/// the volume doesn't have.
+/// offer of it, ascending, each with the logical block or the indirect block, else whether the map
+/// of its cylinder group (fs(5)) has it as free, or it is lost. Nothing is printed for a fragment
+/// that the volume doesn't have.
 ///
 /// The contract gives the lines only for a workspace that holds what phase 1 found of blocks, also
-/// where later phases ran in it. It is left ready, and all of it but its windows as it was: more can
-/// be found in it. No more reads are made than those of a sweep over all inodes.
+/// where later phases ran in it. It is left ready, and all of it but its windows as it was: more
+/// can be found in it. No more reads are made than those of a sweep over all inodes.
 ///
 /// # Errors
 /// A read of the image that failed, and a write that failed.

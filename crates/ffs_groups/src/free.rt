@@ -31,9 +31,9 @@ pub fn next_at_once(at_once: u32, alike: bool) -> u32
 }
 
 /// Whether the fragments from `start` on and below `end` are all free (`Some(true)`), or none is
-/// (`Some(false)`); else `None`. Where not all are alike, the first 64 from `start` on mostly aren't
-/// either: then no bit is counted. These 64 may reach beyond `end`: so `None` also comes where fewer
-/// than 64 are asked about and are alike, and one after them differs.
+/// (`Some(false)`); else `None`. Where not all are alike, the first 64 from `start` on mostly
+/// aren't either: then no bit is counted. These 64 may reach beyond `end`: so `None` also comes
+/// where fewer than 64 are asked about and are alike, and one after them differs.
 pub fn are_free(used: &FragmentMap, start: u32, end: u32) -> Option<bool>
     requires { IsPart start end used.now.size }
     ensures { IfSome result (λ free. (k : ℕ) → k < end - start

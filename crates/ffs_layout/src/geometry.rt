@@ -134,8 +134,8 @@ impl Geometry {
         fragment < self.layout.size && !self.is_group_metadata(fragment)
     }
 
-    /// Whether the run of `len` fragments from `start` on is in range: all of them are, and they are
-    /// of one group. An empty run is in range.
+    /// Whether the run of `len` fragments from `start` on is in range: all of them are, and they
+    /// are of one group. An empty run is in range.
     #[tactic(auto, using(crate::proofs::EmptyRun::empty_in_range))]
     pub fn in_range(&self, start: u32, len: u32) -> bool
         ensures { result ≡ is_run_in_range self.now.layout start len }

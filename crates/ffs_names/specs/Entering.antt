@@ -33,7 +33,8 @@ IsHeldIfLeft b r = r.place < DIRBLKSIZ → IsHeld b r
 -- the current chunk is in the volume
 abbrev pub IsInside : Entries → Type 0
 IsInside r =
-    last_place r.chunks.run_cursor + DIRBLKSIZ ≤ r.chunks.walk.geometry.layout.size * r.chunks.walk.geometry.layout.fsize
+    last_place r.chunks.run_cursor + DIRBLKSIZ
+    ≤ r.chunks.walk.geometry.layout.size * r.chunks.walk.geometry.layout.fsize
 
 -- an entry was given. Its chunk lies in the volume, and is what an image of these contents has there;
 -- the same is supposed of the chunk before, if an entry of it might still come

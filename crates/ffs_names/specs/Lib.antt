@@ -19,7 +19,8 @@
 -- `Shapes` says what a reading shows of the directory's shape. `Leaves` is what calls leave that read chunks or
 -- entries, and `SeenRuns` that the Runs which they look at are those of the block check.
 --
--- All directories: `Readers` what the survey of ffs_survey goes over, `CalmDirs` which flags it sets, `Surveys` what it finds and leaves, and `Noting` the places of parent entries.
+-- All directories: `Readers` what the survey of ffs_survey goes over, `CalmDirs` which flags it sets, `Surveys` what
+-- it finds and leaves, and `Noting` the places of parent entries.
 pub mod Windows
 pub mod Fits
 pub mod RunCursors

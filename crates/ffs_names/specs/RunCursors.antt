@@ -7,7 +7,8 @@ use Rattle.ffs_names.specs.{declared.run_cursor.RunCursor.RunCursor, Fits.Cursor
 
 -- the chunks of the current Run, in an image of these bytes
 abbrev pub cursor_chunks : Layout → List ℕ → RunCursor → List Chunk
-cursor_chunks v b cursor = map (λ k. chunk_of v.order (cursor.offset + DIRBLKSIZ * k) (piece (cursor.place + DIRBLKSIZ * k) DIRBLKSIZ b))
+cursor_chunks v b cursor = map
+    (λ k. chunk_of v.order (cursor.offset + DIRBLKSIZ * k) (piece (cursor.place + DIRBLKSIZ * k) DIRBLKSIZ b))
     (range_with_len cursor.next (cursor.count - cursor.next))
 
 -- how a directory is read in an image of these bytes, where this many bytes of it are

@@ -63,7 +63,8 @@ fn note_entry(
     let index = entry.number as usize;
     let word = words[index];
     if noted_part(word).is_none() {
-        // The bits of a place are 0 in the word, and `place` has no others: the sum sets these alone.
+        // The bits of a place are 0 in the word, and `place` has no others: the sum sets these
+        // alone.
         words.set(index, word + place);
     }
 }

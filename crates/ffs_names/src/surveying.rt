@@ -63,9 +63,9 @@ fn survey_unlimited<I: Image>(
 /// Finds how often each inode is referred to, which inodes a plain entry names, which directories
 /// are reached from the root, and the parent of each directory. Each directory is read once. In
 /// `flags` are then calm directories alone, of which nothing can be reported, and all that are calm
-/// by the image's bytes (`is_calm_directory`). `queue` is zero: it notes no place of a parent entry.
-/// The windows change too. What phase 1 left (claims, kinds, marks, notes, counts of Runs) stays as
-/// it was.
+/// by the image's bytes (`is_calm_directory`). `queue` is zero: it notes no place of a parent
+/// entry. The windows change too. What phase 1 left (claims, kinds, marks, notes, counts of Runs)
+/// stays as it was.
 ///
 /// A second survey of the workspace, also after later phases, reads nothing and counts no reference
 /// again: what the first one found is there still. It flags no directory.

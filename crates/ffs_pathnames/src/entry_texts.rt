@@ -91,9 +91,9 @@ fn make_path_unlimited<I: Image>(
 
 /// Makes the path of a directory for the lines on its entries. An image that gives other bytes each
 /// time may be read more often than a path reads at most: then no more is read, and the path that
-/// was there before stays, for all lines of the directory. It is apart from `make_path_once`, which is
-/// called for each line: a function clears the room of its locals each time that it is entered, and
-/// those here are large.
+/// was there before stays, for all lines of the directory. It is apart from `make_path_once`, which
+/// is called for each line: a function clears the room of its locals each time that it is entered,
+/// and those here are large.
 #[inline(never)]
 fn make_path<I: Image>(
     geometry: &Geometry,

@@ -1,6 +1,6 @@
-//! A first look at a directory, once over its chunks: whether it is sure that nothing is reported of
-//! its entries, whether each chunk is sound, and whether a hole is kept. It stamps the inodes that
-//! belong to the directory. `examine` reads the inode, and looks at the chunks within a limit.
+//! A first look at a directory, once over its chunks: whether it is sure that nothing is reported
+//! of its entries, whether each chunk is sound, and whether a hole is kept. It stamps the inodes
+//! that belong to the directory. `examine` reads the inode, and looks at the chunks within a limit.
 ghost use Rattle.std.specs.Prelude.{◌≡◌, ◌+◌, ◌≤◌, ◌&&◌, true, false, List, [], ◌∷◌};
 ghost use Rattle.ffs_workspace.specs.Moments.{work_moment};
 ghost use Rattle.ffs_volume.specs.{Report.DirectoryReads.{directory_cost, directory_runs}, declared.Order.Order};

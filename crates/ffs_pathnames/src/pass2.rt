@@ -46,13 +46,13 @@ pub enum Root {
 /// One that gives other bytes each time is read no more than four sweeps, and `line_reads` for each
 /// message that was begun. Where no survey was made before, a directory of which nothing can be
 /// reported isn't read for the messages, unless it is marked (`phase2_cost`, and `looked_at` of
-/// `Phase2Reads`); where one was made, none is made again (`again` there). Where the check stops after
-/// the root, only the survey reads (`stopped` there).
+/// `Phase2Reads`); where one was made, none is made again (`again` there). Where the check stops
+/// after the root, only the survey reads (`stopped` there).
 ///
 /// # Errors
 /// A read of the image that failed, and a write of the report that failed. Where it was a write, or
-/// the workspace says `surveyed` then, phase 2 can be called again: all that it needs is held still.
-/// The workspace says so unless nothing but the heading was begun.
+/// the workspace says `surveyed` then, phase 2 can be called again: all that it needs is held
+/// still. The workspace says so unless nothing but the heading was begun.
 pub fn phase2<I: Image, W: Output>(
     geometry: &Geometry,
     image: &mut I,
@@ -80,8 +80,8 @@ pub fn phase2<I: Image, W: Output>(
     // references.
     ensures block_check { LeavesBlockCheck workspace.old workspace.new }
 
-    // The survey counts as made then, unless nothing but the heading was begun before a fault. One that
-    // was made before counts as made in any case.
+    // The survey counts as made then, unless nothing but the heading was begun before a fault. One
+    // that was made before counts as made in any case.
     ensures surveyed { workspace.new.surveyed ≡ false → (workspace.old.surveyed ≡ false) × ForBytes
         (WithClaims geometry.now.layout (I.device image.old) workspace.old)
         (λ bytes. IsErr result × SaysBeforeFault (messages.phase2 ∷ [])

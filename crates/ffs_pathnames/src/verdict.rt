@@ -142,8 +142,8 @@ pub fn verdict_at_look(
 }
 
 /// Whether a plain entry is a whiteout; or it has the type of the file that it names, and that file
-/// isn't marked, or an entry has named it already. Nothing is reported of such an entry, in whichever
-/// directory it is. Most entries are so.
+/// isn't marked, or an entry has named it already. Nothing is reported of such an entry, in
+/// whichever directory it is. Most entries are so.
 pub fn is_harmless(inodes: &Inodes<'_>, flags: &FilledList<bool>, entry: &Entry<'_>) -> bool
     requires { vec_len flags.now ≡ length inodes.now.kinds.now }
     ensures { IsTrue result → IsHarmless inodes.now flags.now.items (entry_value entry.now) }

@@ -167,8 +167,8 @@ impl Areas {
         )
     }
 
-    /// Whether the fragments with a read's bytes can be a Run in range or a part of one: they are no
-    /// more than a block has, and they are in the volume, in this group, and in no metadata.
+    /// Whether the fragments with a read's bytes can be a Run in range or a part of one: they are
+    /// no more than a block has, and they are in the volume, in this group, and in no metadata.
     fn is_run(&self, read: Span, group: u64) -> bool {
         let first = quotient(read.from, self.fsize);
         let last = quotient(read.end.saturating_sub(1), self.fsize);

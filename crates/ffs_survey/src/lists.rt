@@ -27,7 +27,8 @@ pub struct FoundLists<'a> {
     pub parents: &'a mut FilledList<u32>,
     /// Whether each inode is a directory of which nothing can be reported.
     pub calm: &'a mut FilledList<bool>,
-    /// The directories that are reached, level after level. What it holds after a survey isn't said.
+    /// The directories that are reached, level after level. What it holds after a survey isn't
+    /// said.
     pub queue: &'a mut FilledList<u32>,
 }
 

@@ -226,8 +226,8 @@ fn walks(rt: HostRuntime) -> Result<(), Fail> {
     Ok(())
 }
 
-/// A message is said twice to an output that takes 30 bytes: whether each went out, whether one is a
-/// defect, and what was taken.
+/// A message is said twice to an output that takes 30 bytes: whether each went out, whether one is
+/// a defect, and what was taken.
 fn said_twice(alloc: Global) -> ([bool; 3], Vec<u8>) {
     let mut writer = MutedWriter::new(FuseWriter::new(Vec::new(alloc), 30));
     let mut out = Counted::new(&mut writer);
@@ -274,8 +274,8 @@ fn workspaces(rt: HostRuntime) -> Result<(), Fail> {
     Ok(())
 }
 
-/// Where a volume has its group block, its summary record and the root's inode, in bytes; none where it has
-/// no group or no inode 2.
+/// Where a volume has its group block, its summary record and the root's inode, in bytes; none
+/// where it has no group or no inode 2.
 fn places_of(geometry: &Geometry) -> Option<[u64; 3]> {
     if geometry.layout.ncg == 0 || geometry.inodes() <= 2 {
         return None;
@@ -287,7 +287,8 @@ fn places_of(geometry: &Geometry) -> Option<[u64; 3]> {
     ])
 }
 
-/// What the superblock of the volume says: whether its settings are valid, and the places of its parts.
+/// What the superblock of the volume says: whether its settings are valid, and the places of its
+/// parts.
 fn super_of(order: Order, alloc: Global) -> Result<([bool; 3], Option<[u64; 3]>), Fail> {
     let mut image = volume(order, &[], alloc)?;
     let found = read_super(&mut image, None)?;

@@ -1,6 +1,6 @@
-//! Tests of the public calls of the crates of phases, of those that read directories and make paths,
-//! and of the whole check: its end, its reads, its memory. They are here so that no crate is proved
-//! twice for them, and so that the program uses no crate but the check.
+//! Tests of the public calls of the crates of phases, of those that read directories and make
+//! paths, and of the whole check: its end, its reads, its memory. They are here so that no crate is
+//! proved twice for them, and so that the program uses no crate but the check.
 #![tactic(auto)]
 
 #[cfg(test)]

@@ -1,5 +1,5 @@
-//! The verdict on a plain entry, and whether a directory is in order, as a reader would work them out
-//! by hand.
+//! The verdict on a plain entry, and whether a directory is in order, as a reader would work them
+//! out by hand.
 
 ghost use Rattle.ffs_pathnames.specs.Sees.{HasFlagAndWord};
 

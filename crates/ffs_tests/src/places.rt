@@ -56,7 +56,8 @@ static NUMBERS: [Number; 19] = [
     (42502, 4, 0x0063_0104),
 ];
 
-/// The parts of the image that are noted in the words of inodes 2 to 5, and whether one of them is due.
+/// The parts of the image that are noted in the words of inodes 2 to 5, and whether one of them is
+/// due.
 fn noted_in(words: &FilledList<u32>) -> ([Option<u32>; 4], bool) {
     let mut places = [None; 4];
     let mut due = false;

@@ -64,12 +64,12 @@ static CASES: [(&[Number], End, u64); 7] = [
 ];
 
 /// A clean volume of this size has six: the superblock and its copy, the inodes, the root's chunk,
-/// and the summary record and the block of the group. A later phase that asks for an inode reads the
-/// inodes anew, since each phase lets go of what the windows hold. So one more is read for the line of
-/// a link count (phase 4), and two for a directory that phase 2 looks at again: the inodes, and its
-/// chunk. With a second directory there is its chunk, and for one that is lost the inodes in phases 3
-/// and 4. With two indirect blocks there are these, the first one again in phase 1b, and the inodes in
-/// phases 1b and 4.
+/// and the summary record and the block of the group. A later phase that asks for an inode reads
+/// the inodes anew, since each phase lets go of what the windows hold. So one more is read for the
+/// line of a link count (phase 4), and two for a directory that phase 2 looks at again: the inodes,
+/// and its chunk. With a second directory there is its chunk, and for one that is lost the inodes
+/// in phases 3 and 4. With two indirect blocks there are these, the first one again in phase 1b,
+/// and the inodes in phases 1b and 4.
 #[test]
 fn reads_of_a_check(rt: HostRuntime) -> Result<(), Fail> {
     for order in ORDERS {

@@ -87,8 +87,8 @@ pub const DT_SOCK: u8 = 12;
 /// The type of a whiteout.
 pub const DT_WHT: u8 = 14;
 
-/// What a workspace stores as the kind of a directory whose size is 0. No inode of class File or Dir
-/// has this type.
+/// What a workspace stores as the kind of a directory whose size is 0. No inode of class File or
+/// Dir has this type.
 pub const EMPTY_DIR_KIND: u8 = 5;
 
 /// What a workspace stores as the kind of an inode of class Unknown. No inode of class File or Dir

@@ -51,8 +51,8 @@ impl Verdict {
     }
 }
 
-/// What is wrong with `.`, the first entry of a directory, or with `..`, the second. A name, `P`, is
-/// as in `tree_lines`.
+/// What is wrong with `.`, the first entry of a directory, or with `..`, the second. A name, `P`,
+/// is as in `tree_lines`.
 #[derive(Clone, Copy, Debug)]
 pub enum DotDefects<P> {
     /// It isn't there, and no name in its place is shown.

@@ -395,7 +395,8 @@ impl Walk {
         u64::from(self.next) < NDADDR && self.next < self.used
     }
 
-    /// The next of the inode's own addresses, which is direct, and how many fragments its block has.
+    /// The next of the inode's own addresses, which is direct, and how many fragments its block
+    /// has.
     #[inline(always)]
     pub fn next_direct(&self) -> (u32, u32)
         requires { HasDirect self.now }

@@ -1,6 +1,6 @@
-//! The words of an indirect block, each an address: `word` gives one, `any_from` says whether one past
-//! the end of the file isn't zero (a Tail), and `zeros_end` where a stretch of holes ends. `any_set` and
-//! `are_zeros` are for these two: they look at many bytes together.
+//! The words of an indirect block, each an address: `word` gives one, `any_from` says whether one
+//! past the end of the file isn't zero (a Tail), and `zeros_end` where a stretch of holes ends.
+//! `any_set` and `are_zeros` are for these two: they look at many bytes together.
 
 ghost use Rattle.std.specs.{Prelude.{◌≡◌, ◌*◌, ◌+◌, ◌≤◌, length, nat_le, not, ◌&&◌}, List.slice_range};
 ghost use Rattle.ffs_volume.specs.Blocks.{Inodes.any_nonzero, Steps.{any_nonzero_from, address_in}};

@@ -50,8 +50,8 @@ pub fn without_due(word: u32) -> u32
 }
 
 /// How many bytes a part of the image has. It is a chunk where 31 bits have room for the number of
-/// each chunk of the volume: where it has less than 2^40 bytes. Else it is a fragment, which is read
-/// at once too, but holds more entries to search.
+/// each chunk of the volume: where it has less than 2^40 bytes. Else it is a fragment, which is
+/// read at once too, but holds more entries to search.
 #[tactic(auto, unfolding(ffs_volume::specs::Encodings::Places::part_size))]
 pub fn part_size(geometry: &Geometry) -> usize
     ensures { result ≡ part_size geometry.now.layout }

@@ -60,8 +60,8 @@ pub struct Workspace {
     pub flags: FilledList<bool>,
     /// How many entries refer to each inode, counted on from `links_start`.
     pub references: FilledList<u64>,
-    /// Whether the survey is made. Until then each count of `references` is where it starts; a survey
-    /// that a read cut short leaves them between, and no later call finds them right.
+    /// Whether the survey is made. Until then each count of `references` is where it starts; a
+    /// survey that a read cut short leaves them between, and no later call finds them right.
     pub surveyed: bool,
     /// What is noted of each inode (`note_of`): how many offers it keeps, if its eleventh dup offer
     /// cut it; if not, 2^31 + 128 plus the address of its chunk for a directory of one; else 0.
@@ -83,8 +83,8 @@ pub struct Workspace {
     ///
     /// The survey, and phase 3 after its walks, leave all of them at 0.
     pub queue: FilledList<u32>,
-    /// How many Runs phase 1 has looked at. It is counted for its bound, which is proved: nothing is
-    /// decided by it.
+    /// How many Runs phase 1 has looked at. It is counted for its bound, which is proved: nothing
+    /// is decided by it.
     pub runs_seen: u64,
     /// How many Runs phase 1b has looked at: the same.
     pub runs_again: u64,
@@ -179,7 +179,8 @@ impl Workspace {
     }
 
     /// Lets the windows hold nothing, so that whatever is asked of them is read anew: they may hold
-    /// what another image gave. Each phase does so before it reads, and phase 2 also after the survey.
+    /// what another image gave. Each phase does so before it reads, and phase 2 also after the
+    /// survey.
     pub fn forget_windows(&mut self)
         ensures only { self.new ≡ record self.old { windows = self.new.windows } }
         ensures forgets { (v : Layout) (d : Device) → IsReady v d self.old → CanRead v d self.new }
@@ -211,8 +212,9 @@ impl Workspace {
         maps + lists + buffers as u64
     }
 
-    /// Whether a phase 1 that ended with `Ok` printed a DUP line: so that phase 1b is to run (fsck(8)). It
-    /// is false before that. A phase 1 that failed leaves the answer as it was, and so do the later phases.
+    /// Whether a phase 1 that ended with `Ok` printed a DUP line: so that phase 1b is to run
+    /// (fsck(8)). It is false before that. A phase 1 that failed leaves the answer as it was, and
+    /// so do the later phases.
     pub fn has_dups(&self) -> bool
         ensures { result ≡ self.now.has_dups }
     {
@@ -236,8 +238,8 @@ impl Workspace {
         cut_in(self.notes[number as usize])
     }
 
-    /// How many Runs phases 1 and 1b have looked at. After one of them failed no contract says that its
-    /// count is exact.
+    /// How many Runs phases 1 and 1b have looked at. After one of them failed no contract says that
+    /// its count is exact.
     pub fn runs(&self) -> [u64; 2]
         ensures { result ≡ self.now.runs_seen ∷ self.now.runs_again ∷ [] }
     {

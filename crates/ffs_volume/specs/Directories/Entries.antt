@@ -33,7 +33,8 @@ has_valid_name chunk place =
 
 -- the length of a record is a multiple of 4 and at least 8, and the record ends within the chunk
 abbrev pub is_valid_record_length : (place length : ℕ) → Bool
-is_valid_record_length place length = (length % 4 == 0) && nat_le DIRENT_HEADER length && nat_le (place + length) DIRBLKSIZ
+is_valid_record_length place length =
+    (length % 4 == 0) && nat_le DIRENT_HEADER length && nat_le (place + length) DIRBLKSIZ
 
 -- what the record of a live entry must hold: room for its name and the NUL, rounded up to 4 bytes,
 -- a type of at most 15, and a valid name

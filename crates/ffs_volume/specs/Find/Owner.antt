@@ -78,7 +78,8 @@ keeper_lines_of_step v f x earlier s Gap = []
 abbrev pub keeper_lines_of_steps : Layout → (f x earlier : ℕ) → Claims → List Step → List (List ℕ)
 keeper_lines_of_steps v f x earlier s [] = []
 keeper_lines_of_steps v f x earlier s (step ∷ steps) =
-    keeper_lines_of_step v f x earlier s step ++ keeper_lines_of_steps v f x (earlier + indirect_in step) (after_step v s step) steps
+    keeper_lines_of_step v f x earlier s step
+    ++ keeper_lines_of_steps v f x (earlier + indirect_in step) (after_step v s step) steps
 
 -- the lines of the inode x
 unfoldable pub keeper_lines_of_inode : (v : Layout) (image : List ℕ) (f x : ℕ) → List (List ℕ)

@@ -75,7 +75,8 @@ rescan_lines v image = if has_rescan v (owners_of v image) then phase1b_messages
 -- phases 3 to 5 and the summary
 unfoldable pub later_phase_lines : List ℕ → Superblock → List Message
 later_phase_lines image s =
-    phase3_messages s.layout image ++ (phase4_messages s.layout image ++ (phase5_messages image s ++ summary_messages image s))
+    phase3_messages s.layout image
+    ++ (phase4_messages s.layout image ++ (phase5_messages image s ++ summary_messages image s))
 
 -- the phases and the summary; where inode 2 isn't a directory, the check stops after the root's line
 unfoldable pub phase_lines : List ℕ → Superblock → List Message
