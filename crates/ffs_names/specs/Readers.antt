@@ -26,22 +26,22 @@ pub record KnowsReader (t : Base) (b : List ℕ) : Type 0 where
 
 -- the entries of a directory, and none of another inode
 abbrev pub dir_entries : Base → List ℕ → ℕ → List RoledEntry
-dir_entries t b d = if is_dir (volume_of t.layout b) d then roled_entries (volume_of t.layout b) d else []
+dir_entries t b dir = if is_dir (volume_of t.layout b) dir then roled_entries (volume_of t.layout b) dir else []
 
 -- a number is that of a directory of right shape
 abbrev pub dir_right_shape : Base → List ℕ → ℕ → Bool
 dir_right_shape t b = is_right_directory (volume_of t.layout b)
 
 -- the windows have room, and hold what the image gives; its lists have an entry for each inode
-pub record IsReaderReady (v : Layout) (device : Device) (windows : Windows) (kinds notes : List ℕ) : Type 0 where
-  pub volume : v.size * v.fsize ≤ device.size
+pub record IsReaderReady (v : Layout) (d : Device) (windows : Windows) (kinds notes : List ℕ) : Type 0 where
+  pub volume : v.size * v.fsize ≤ d.size
   pub table : IsTableOf v windows.table
   pub blocks : vec_len windows.blocks.buffer ≡ 3 * v.bsize
   pub current : vec_len windows.current.buffer ≡ v.bsize
   pub other : vec_len windows.other.buffer ≡ v.bsize
-  pub table_holds : WindowHolds device.contents windows.table.window
-  pub blocks_hold : BlocksHold v device.contents windows.blocks
-  pub current_holds : WindowHolds device.contents windows.current
-  pub other_holds : WindowHolds device.contents windows.other
+  pub table_holds : WindowHolds d.contents windows.table.window
+  pub blocks_hold : BlocksHold v d.contents windows.blocks
+  pub current_holds : WindowHolds d.contents windows.current
+  pub other_holds : WindowHolds d.contents windows.other
   pub kinds_long : length kinds ≡ inodes_of v
   pub notes_long : length notes ≡ inodes_of v

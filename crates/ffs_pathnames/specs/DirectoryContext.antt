@@ -10,14 +10,14 @@ use Rattle.ffs_pathnames.specs.declared.{look.Directory.Directory, header.Header
 use Rattle.ffs_pathnames.specs.declared.entry_texts.EntryTexts.{EntryTexts}
 
 -- the image gives these bytes, the workspace holds what the block check and the survey leave, and the
--- place of each directory that is reached; and d is a directory
-pub record DirectoryContext (v : Layout) (contents : Option (List ℕ)) (w : Workspace) (d : ℕ) (b : List ℕ) :
+-- place of each directory that is reached; and x is a directory
+pub record DirectoryContext (v : Layout) (contents : Option (List ℕ)) (w : Workspace) (x : ℕ) (b : List ℕ) :
     Type 0 where
   pub gives_bytes : IsContents contents b
   pub claims : HoldsClaims v b w
   pub survey : HoldsSurvey v b w
   pub noted : AreNoted v b w.queue.items
-  pub dir : is_dir (volume_of v b) d ≡ true
+  pub dir : is_dir (volume_of v b) x ≡ true
 
 -- the path of a directory, where it is settled, is that of `dir`
 abbrev pub BeginsPathOf : Graph → ℕ → EntryTexts → Type 0
@@ -29,14 +29,15 @@ pub record KnowsPath (v : Layout) (contents : Option (List ℕ)) (w : Workspace)
   pub knows : DirectoryContext v contents w dir b
   pub path : BeginsPathOf (graph_of (volume_of v b)) dir t
 
--- after a call the path that is settled, if any, still is that of x
-abbrev pub KeepsPath : Layout → Device → Workspace → ℕ → (old new : EntryTexts) → Type 0
-KeepsPath v d w x old new =
-    ForBytes (KnowsPath v d.contents w x old) (λ b. BeginsPathOf (graph_of (volume_of v b)) x new)
+-- after a call the path that is settled, if any, still is that of `dir`
+abbrev pub KeepsPath : Layout → Device → Workspace → (dir : ℕ) → (old new : EntryTexts) → Type 0
+KeepsPath v d w dir old new =
+    ForBytes (KnowsPath v d.contents w dir old) (λ b. BeginsPathOf (graph_of (volume_of v b)) dir new)
 
 -- the bytes are those of a directory's context, and the inode that was read is that of the directory
 abbrev pub KnowsDirectory : Layout → Device → Workspace → Directory → List ℕ → Type 0
-KnowsDirectory v d w x b = DirectoryContext v d.contents w x.number b × (x.inode ≡ inode_of v b x.number)
+KnowsDirectory v d w directory b =
+    DirectoryContext v d.contents w directory.number b × (directory.inode ≡ inode_of v b directory.number)
 
 -- the bytes are those of the context of a header's directory, and the header shows its inode
 abbrev pub KnowsHeader : Layout → Device → Workspace → HeaderFacts → List ℕ → Type 0

@@ -9,28 +9,28 @@ use Rattle.ffs_volume.specs.Encodings.Places.{IsNoted}
 use Rattle.ffs_paths.specs.Reads.{ForTree}
 pub use Rattle.ffs_volume.specs.Encodings.Places.{name_in}
 
--- this is the name of the directory d in its parent p: that of the first plain entry there that names
--- d, if there is one
-abbrev pub IsNameIn : Graph → (d p : ℕ) → List ℕ → Type 0
-IsNameIn g d p name = parent g d ≡ Some p → g.is_dir p ≡ true → name ≡ name_in d (g.entries p)
+-- this is the name of the directory `dir` in its parent p: that of the first plain entry there that names
+-- it, if there is one
+abbrev pub IsNameIn : Graph → (dir p : ℕ) → List ℕ → Type 0
+IsNameIn g dir p name = parent g dir ≡ Some p → g.is_dir p ≡ true → name ≡ name_in dir (g.entries p)
 
--- the answer is whether an entry names the inode d. The text is then the name of the first one that does, and isn't
+-- the answer is whether an entry names the inode x. The text is then the name of the first one that does, and isn't
 -- empty
-pub record FindsFirstName (d : ℕ) (entries : List RoledEntry) (text : List ℕ) (result : Bool) : Type 0 where
-  pub name : result ≡ true → text ≡ name_in d entries
+pub record FindsFirstName (x : ℕ) (entries : List RoledEntry) (text : List ℕ) (result : Bool) : Type 0 where
+  pub name : result ≡ true → text ≡ name_in x entries
   pub some : result ≡ true → 0 < length text
-  pub found : list_any (is_naming_entry d) entries ≡ true → result ≡ true
+  pub found : list_any (is_naming_entry x) entries ≡ true → result ≡ true
 
--- the answer is whether the directory d is named where its place is noted. The text is then its name in its parent
-pub record FindsNoted (v : Layout) (dev : Device) (w : Workspace) (d : ℕ) (text : List ℕ) (result : Bool) : Type 0 where
-  pub name : result ≡ true → ForTree v dev w (λ g. (p : ℕ) → IsNameIn g d p text)
+-- the answer is whether the directory `dir` is named where its place is noted. The text is then its name in its parent
+pub record FindsNoted (v : Layout) (d : Device) (w : Workspace) (dir : ℕ) (text : List ℕ) (result : Bool) : Type 0 where
+  pub name : result ≡ true → ForTree v d w (λ g. (p : ℕ) → IsNameIn g dir p text)
   pub some : result ≡ true → 0 < length text
-  pub found : ForContents dev.contents (λ b. IsNoted v b w.queue.items d → result ≡ true)
+  pub found : ForContents d.contents (λ b. IsNoted v b w.queue.items dir → result ≡ true)
 
--- the text is the name of the directory d in its parent p, and isn't empty where its place is noted
-pub record FindsName (v : Layout) (dev : Device) (w : Workspace) (d p : ℕ) (text : List ℕ) : Type 0 where
-  pub name : ForTree v dev w (λ g. IsNameIn g d p text)
-  pub some : ForContents dev.contents (λ b. IsNoted v b w.queue.items d → 0 < length text)
+-- the text is the name of the directory `dir` in its parent p, and isn't empty where its place is noted
+pub record FindsName (v : Layout) (d : Device) (w : Workspace) (dir p : ℕ) (text : List ℕ) : Type 0 where
+  pub name : ForTree v d w (λ g. IsNameIn g dir p text)
+  pub some : ForContents d.contents (λ b. IsNoted v b w.queue.items dir → 0 < length text)
 
 -- the survey found this parent of a directory that is reached and isn't the root
 pub record IsParentOf (w : Workspace) (dir parent : ℕ) : Type 0 where
@@ -47,5 +47,5 @@ in_room path = if nat_lt MAXPATHLEN (length path) then 63 ∷ [] else path
 
 -- the path of a directory, or of an entry of it
 abbrev pub path_in : Graph → ℕ → Option (List ℕ) → List ℕ
-path_in g d None = dir_path g d
-path_in g d (Some name) = in_room (entry_path g d name)
+path_in g dir None = dir_path g dir
+path_in g dir (Some name) = in_room (entry_path g dir name)

@@ -10,11 +10,11 @@ use Rattle.ffs_paths.specs.{Climbing.IsParentOf, DirectoryPaths.IsPathOf, Reads.
 use Rattle.ffs_paths.specs.{Reads.{OnlyReads, ReadsAtMost, ReadsNames}, Slashes.HaveNoSlash}
 use Rattle.ffs_paths.specs.{NameTexts.name_bytes, declared.kept_parent.KeptParent.KeptParent}
 
--- the names down to d are those down to s, and one more
-pub record LeadsTo (g : Graph) (s d : ℕ) (name : List ℕ) : Type 0 where
+-- the names down to the child are those down to the parent, and one more
+pub record LeadsTo (g : Graph) (parent child : ℕ) (name : List ℕ) : Type 0 where
   pub names : List (List ℕ)
-  pub to_parent : path_names g s ≡ Some names
-  pub to_child : path_names g d ≡ Some (names ++ name ∷ [])
+  pub to_parent : path_names g parent ≡ Some names
+  pub to_child : path_names g child ≡ Some (names ++ name ∷ [])
   pub single : HaveNoSlash (names ++ name ∷ [])
 
 -- the path is that of the parent, and the name that of the child in it

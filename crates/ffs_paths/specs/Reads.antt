@@ -99,7 +99,7 @@ climb_reads = MAXPATHLEN / 2 + 1
 
 -- no directory takes more than n reads, in a volume of these bytes
 abbrev pub EachTakesAtMost : (n : ℕ) → Layout → List ℕ → Type 0
-EachTakesAtMost n v b = (d : ℕ) → directory_cost v b d ≤ n
+EachTakesAtMost n v b = (dir : ℕ) → directory_cost v b dir ≤ n
 
 -- a call for the path of the directory x leaves all of the workspace but its windows. Where each place is
 -- noted, it makes a read at most for each name of that path, and no more than the way up takes. Where some
