@@ -12,12 +12,13 @@
 //! Phase 4 is in `pass4`, with the line of an inode in `reference`. Phase 5 is in `pass5`: `groups`
 //! reads the records of a group, `once` says the messages that come once, and `totals` sums all
 //! groups up; what is right of a group, and the comparison with it, is in the crate `ffs_groups`.
-//! The summary is in `summing`.
+//! The summary is in `summing`. `numbers` compares a signed number of the volume with a count.
 //!
 //! It rests on `ffs_groups`, `ffs_survey`, `ffs_workspace` and `ffs_report`.
 #![tactic(auto)]
 
 mod groups;
+mod numbers;
 mod once;
 mod pass4;
 mod pass5;

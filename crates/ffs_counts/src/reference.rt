@@ -6,7 +6,7 @@ ghost use Rattle.ffs_volume.specs.Encodings.{Kinds.class_of_kind, Links.links_st
 ghost use Rattle.ffs_report.specs.Progress.{progress, Says};
 ghost use Rattle.ffs_counts.specs.References.{lines_as, reference_reported};
 
-use crate::totals::is_count_of;
+use crate::numbers::is_count_of;
 use ffs_report::{Line, OutFault, Output, ReferenceLine, Report};
 use ffs_volume::kinds::Kind;
 use ffs_volume::{Attr, Inode};

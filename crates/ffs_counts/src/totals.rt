@@ -1,9 +1,10 @@
 //! The totals of a superblock.
 
 ghost use Rattle.std.specs.Prelude.{◌≡◌, ◌-◌, ◌^◌};
-ghost use Rattle.ffs_volume.specs.{Disk.Numbers.equals_natural, Groups.Records.has_totals};
+ghost use Rattle.ffs_volume.specs.Groups.Records.{has_totals};
 ghost use Rattle.ffs_counts.specs.Totals.{AreUpTo, total_of, with_counts};
 
+use crate::numbers::is_count_of;
 use ffs_groups::SummaryCounts;
 
 /// The sums of the counts of all groups.
@@ -17,17 +18,6 @@ pub struct Totals {
     pub inodes: u64,
     /// Loose fragments: the free ones of other blocks.
     pub fragments: u64,
-}
-
-/// Whether a signed number of the volume is this count.
-pub fn is_count_of(found: i32, right: u64) -> bool
-    ensures { result ≡ equals_natural found right }
-{
-    if found < 0 {
-        false
-    } else {
-        u64::from(found as u32) == right
-    }
 }
 
 impl Totals {
