@@ -19,6 +19,7 @@ use Rattle.ffs_report.{specs.declared.fault.RunFault.TheVariants.{Read, Out}, pr
 use Rattle.ffs_report.proofs.{Reporting.{of_part, of_fault, said_knows, reports_knowing}, Paying.paid_answer}
 use Rattle.ffs_report.proofs.Paying.{paid_beside, paid_fault, paid_none, paid_price, paid_text, paid_then, paid_within}
 use Rattle.ffs_report.proofs.Reports.{said_then}
+use Rattle.ffs_volume.proofs.Results.{on_any}
 use Rattle.ffs_check.specs.{Moment.ReportMoment, PhaseEnds.{HaveRun, LeavesAnswers, PhasesLeave, SaidWhole}}
 use Rattle.ffs_volume.specs.Report.Whole.{phase1_messages, rescan_lines, phase2_messages, phase3_messages, phase4_messages, phase5_messages}
 use Rattle.ffs_volume.specs.Report.Whole.{summary_messages}
@@ -35,7 +36,7 @@ use Rattle.ffs_workspace.specs.Holds.{HoldsClaims, HoldsFindings, IsFresh}
 use Rattle.ffs_workspace.proofs.Leaving.{claims_held, claims_left, references_left, survey_left, windows_leave}
 use Rattle.ffs_check.proofs.Stages.{some_more, more_after, root_or_more, Left, each, Point, Given, Stage, report_at}
 use Rattle.ffs_check.proofs.Stages.{RunsPhases, Spends, Ran, begun, phase1_done, phase1b_done, Rooted, phase2_done}
-use Rattle.ffs_check.proofs.Stages.{phase3_done, phase4_done, phase5_done, root_stays, windows_stay, at_ok, at_err}
+use Rattle.ffs_check.proofs.Stages.{phase3_done, phase4_done, phase5_done, root_stays, windows_stay, at_err}
 use Rattle.ffs_check.proofs.Stages.{then_err, with_ok, spends_left, spends_lines, IsClaimed, spends_names}
 use Rattle.ffs_check.proofs.Stages.{spends_knowing, within_both, whole_said}
 
@@ -301,7 +302,7 @@ module _ (s : Superblock) where
         (phase2_done s d w u root).left.known (phase3_done s d w u' root).left.known read paid
         (λ bytes k. rw goes (omega arith)))
         (λ bytes k. ap (λ go. after_phase2 go bytes s) goes) (λ bytes k. some_more phase4 _)
-        (at_ok r (sure, λ bytes k. grind (arith, claims_left, survey_left, references_left)))
+        (on_any r (sure, λ bytes k. grind (arith, claims_left, survey_left, references_left)))
         (at_err r sure.answers.dups) sure.answers.most ready
 
     pub phase4_comes : {T : Type 0} (r : Result T RunFault) {root : Root} →
@@ -318,7 +319,7 @@ module _ (s : Superblock) where
         (spends_lines (group_reads s.layout) (λ bytes. length (reference_lines (volume_of s.layout bytes)))
         (phase3_done s d w u root).left.known (phase4_done s d w u' root).left.known read paid (λ bytes k. omega arith))
         (λ bytes k. refl) (λ bytes k. some_more phase5 _)
-        (at_ok r (sure, λ bytes k. claims_held s.layout bytes u u' held k.1.claims)) (at_err r sure.answers.dups)
+        (on_any r (sure, λ bytes k. claims_held s.layout bytes u u' held k.1.claims)) (at_err r sure.answers.dups)
         sure.answers.most ready
 
     pub phase5_comes : {T : Type 0} (r : Result T RunFault) {root : Root} →
@@ -332,7 +333,7 @@ module _ (s : Superblock) where
         next r (phase5_done s d w u' root) at (λ bytes k. k) ran
         (spends_left _ r ran.text (omega (arith, few)) (λ bytes k. omega (arith, few))) (λ bytes k. refl)
         (λ bytes k. some_more (summary_of s (file_count s.layout bytes) (claimed_count s.layout bytes)) [])
-        (at_ok r (sure, λ bytes k. claims_held s.layout bytes u u' held k.1)) (at_err r sure.answers.dups)
+        (on_any r (sure, λ bytes k. claims_held s.layout bytes u u' held k.1)) (at_err r sure.answers.dups)
         sure.answers.most ready
 
   -- the summary reads nothing
