@@ -30,15 +30,15 @@ runs_begun {v = v} {b = b} {i = i} {cut = cut} p sound claims inode noted begins
     let cut_is = noted ∙ (ap cut_in (claims.notes p) ∙ cut_is_noted v b p sound) in
     omega (arith, begins.to_read b, runs_are v b p i cut inode cut_is)
 
-pub returns-then-names-clause-name : goal.returns-then-names-clause-name
-returns-then-names-clause-name g c = λ b t claims survey is dir.
+pub returns-then-is_naming-clause-name : goal.returns-then-is_naming-clause-name
+returns-then-is_naming-clause-name g c = λ b t claims survey is dir.
     let i = c.entries.invariant in
     let o = rw c.in-Some.is at c.in_ok-entry.ensures.entry in
     c.set.ensures ∙ (c.name.ensures ∙ sym (ap (name_in c.args.dir) (begun c.args.parent c.args.geometry.now.sound
     claims dir (c.in_ok-inode.ensures.reads.inode b t) c.noted_cut-cut.ensures c.start-entries.ensures.begins)
     ∙ (i.name b t ∙ (ap (name_in c.args.dir) (o b (ap (λ d. d.contents) i.reads.read ∙ t)).entries
     ∙ name_in-by c.args.dir (roled_of c.in-Some.entry (last_name c.next.new.self)) (to_come b c.next.new.self)
-    (sym c.names.ensures ∙ c.if-names.true)))))
+    (sym c.is_naming.ensures ∙ c.if-is_naming.true)))))
 
 -- no entry is left
 pub returns-clause-name : goal.returns-clause-name
@@ -71,7 +71,7 @@ entries-preserved g c =
       name = λ b t. i.name b t
           ∙ (ap (name_in c.args.dir) (o b (ap (λ d. d.contents) i.reads.read ∙ t)).entries
           ∙ name_in-by c.args.dir (roled_of c.in-Some.entry (last_name c.next.new.self)) (to_come b c.next.new.self)
-          (sym c.names.ensures ∙ c.if-names.false));
+          (sym c.is_naming.ensures ∙ c.if-is_naming.false));
       none = i.none;
       geometry = next.leaves.geometry ∙ i.geometry;
       reads = chunk_then i.reads (rw i.geometry at next.leaves.ready) next.leaves.read;
@@ -80,8 +80,8 @@ entries-preserved g c =
           (omega (arith, (i.counted b k).0, took.paid), took.held);
     }
 
-pub returns-then-names-clause-reads : goal.returns-then-names-clause-reads
-returns-then-names-clause-reads g c =
+pub returns-then-is_naming-clause-reads : goal.returns-then-is_naming-clause-reads
+returns-then-is_naming-clause-reads g c =
     let i = c.entries.invariant in
     let next = c.in_ok-entry.ensures in
     chunk_then i.reads (rw i.geometry at next.leaves.ready) next.leaves.read
@@ -97,8 +97,8 @@ pub returns-in_err-entry-clause-reads : goal.returns-in_err-entry-clause-reads
 returns-in_err-entry-clause-reads g c = grind (arith, err_from_is_err_and, chunk_then)
 
 -- how often it was read
-pub returns-then-names-clause-counted : goal.returns-then-names-clause-counted
-returns-then-names-clause-counted g c = λ b k is.
+pub returns-then-is_naming-clause-counted : goal.returns-then-is_naming-clause-counted
+returns-then-is_naming-clause-counted g c = λ b k is.
     let i = c.entries.invariant in
     let took = c.in_ok-entry.ensures.reads (i.counted b k).1 b (ap (λ d. d.contents) i.reads.read ∙ k.0) in
     omega (arith, (i.counted b k).0, took.most, cost_is c.args.geometry.now.layout b c.args.parent is)
