@@ -43,10 +43,25 @@ pub record SameFound (old new : Workspace) : Type 0 where
   pub used : StaySet (bits_of old.used) (bits_of new.used)
   pub duplicates : StaySet (bits_of old.duplicates) (bits_of new.duplicates)
 
--- the same, but for what is found of inodes that claim
-abbrev pub ClaimsAndFinds : (old new : Workspace) → Type 0
-ClaimsAndFinds old new = SameFound
-    (record old { kinds = new.kinds; marked = new.marked; notes = new.notes; references = new.references }) new
+-- all is as it was but claims and counts, what is found of inodes that claim, and windows. What was used is used,
+-- and what had a DUP line has one
+pub record ClaimsAndFinds (old new : Workspace) : Type 0 where
+  pub only : new ≡ record old {
+    used = new.used;
+    duplicates = new.duplicates;
+    kinds = new.kinds;
+    marked = new.marked;
+    notes = new.notes;
+    references = new.references;
+    runs_seen = new.runs_seen;
+    bad = new.bad;
+    dup_offers = new.dup_offers;
+    kept = new.kept;
+    tail = new.tail;
+    windows = new.windows;
+  }
+  pub used : StaySet (bits_of old.used) (bits_of new.used)
+  pub duplicates : StaySet (bits_of old.duplicates) (bits_of new.duplicates)
 
 -- what claiming leaves: the lists have their lengths, and the windows and what was found are as they were
 pub record ClaimsOnly (v : Layout) (old new : Workspace) : Type 0 where
