@@ -43,7 +43,4 @@ discovered_same is = grind arith
 
 pub counted_same : {n : ℕ} {count : ℕ → ℕ} {name : ℕ → Bool} {old new : Found} → AreCountedOn n count name old new →
     Counts n count name old.references old.named none never new.references new.named
-counted_same is = record {
-  counts = λ x l. let now = is.counts x l in omega (arith, now);
-  names = λ x l. let now = is.names x l in grind arith;
-}
+counted_same is = grind arith

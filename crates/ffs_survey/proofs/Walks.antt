@@ -187,17 +187,7 @@ round_step {f = f} {found = found} {steps = steps} {at = at} r n h a b w = grind
 met_later : (p q : ℕ → Bool) (n s : ℕ) → IsFirst p n s → p 0 ≡ false → ((k : ℕ) → p (suc k) ≡ q k) →
     (t : ℕ) × IsFirst q n t × (t < s)
 met_later p q n zero first none same = absurd (both_ways (p 0) none first.passes)
-met_later p q n (suc s) first none same =
-    let below = first.below in
-    let here : q s ≡ true = sym (same s) ∙ first.passes in
-    let next = some_below-gives q n (some_below-from q n s (omega arith) here) in (
-      next.0,
-      next.1,
-      elim (cases_lt s next.0) [
-        | inl y ↦ absurd (both_ways (q s) (next.1.least s y) here)
-        | inr y ↦ omega (arith, y)
-      ],
-    )
+met_later p q n (suc s) first none same = grind arith
 
 first_later : (p q : ℕ → Bool) (n some : ℕ) → some < n → p some ≡ true → p 0 ≡ false → ((k : ℕ) → p (suc k) ≡ q k) →
     unwrap_or (first_below q n) 0 < unwrap_or (first_below p n) 0

@@ -37,9 +37,7 @@ round-preserved c =
     }
 
 pub returns : goal.returns
-returns c =
-    let r = c.round.invariant.rounding in
-    search (arith, round_end)
+returns c = search (arith, round_end)
 
 pub round-smaller : goal.round-smaller
 round-smaller c =
