@@ -13,44 +13,46 @@ pub record SomeOf {F E : Type 0} (was_read : F → Result ℕ Error → F → Ty
   pub tried : IsTriedAgain was_read old new answer
   pub result_is : MatchResult result (λ n. answer ≡ Ok n) (λ _. MatchResult answer (λ n. n ≡ 0) (λ _. ⊤))
 
--- the file of a name that is no FIFO was opened, which is all that was asked of the system since the
--- name was looked up, and the file gave its size
+-- a name was looked up and is no FIFO, the file of this name was opened, which is all that was asked of the
+-- system, and the file gave its size
 pub record IsOpened {S F : Type 0} {R : rawfile.Ghosts F} (Y : system.Ghosts S F) (old new : S) (name : List ℕ)
     (opened : OpenedFile F R) : Type 0 where
-  pub no_fifo : Y.was_looked_up old name (Ok false)
+  pub between : S
+  pub no_fifo : Y.was_looked_up old name (Ok false) between
   pub first : F
-  pub opened_as : Y.was_opened old name (Ok first) new
+  pub opened_as : Y.was_opened between name (Ok first) new
   pub sized : R.was_sought first (Ok opened.size) opened.file
 
--- a name is that of a FIFO, or can't be looked up, and nothing is opened
-pub record IsPassedOver {Y : Type 0} (was_looked_up : Y → List ℕ → Result Bool Error → Type 0) (old new : Y)
+-- a name is that of a FIFO, or can't be looked up, and nothing else is asked
+pub record IsPassedOver {Y : Type 0} (was_looked_up : Y → List ℕ → Result Bool Error → Y → Type 0) (old new : Y)
     (name : List ℕ) : Type 0 where
   pub answer : Result Bool Error
-  pub looked_up : was_looked_up old name answer
+  pub looked_up : was_looked_up old name answer new
   pub why : MatchResult answer (λ fifo. fifo ≡ true) (λ _. ⊤)
-  pub untouched : new ≡ old
 
 -- the file of a name that is no FIFO can't be opened
-pub record IsUnopened {Y F : Type 0} (was_looked_up : Y → List ℕ → Result Bool Error → Type 0)
+pub record IsUnopened {Y F : Type 0} (was_looked_up : Y → List ℕ → Result Bool Error → Y → Type 0)
     (was_opened : Y → List ℕ → Result F Error → Y → Type 0) (old new : Y) (name : List ℕ) : Type 0 where
-  pub no_fifo : was_looked_up old name (Ok false)
+  pub between : Y
+  pub no_fifo : was_looked_up old name (Ok false) between
   pub error : Error
-  pub unopened : was_opened old name (Err error) new
+  pub unopened : was_opened between name (Err error) new
 
 -- the file of a name that is no FIFO was opened, and doesn't give its size
-pub record IsUnsized {Y F : Type 0} (was_looked_up : Y → List ℕ → Result Bool Error → Type 0)
+pub record IsUnsized {Y F : Type 0} (was_looked_up : Y → List ℕ → Result Bool Error → Y → Type 0)
     (was_opened : Y → List ℕ → Result F Error → Y → Type 0) (was_sought : F → Result ℕ Error → F → Type 0)
     (old new : Y) (name : List ℕ) : Type 0 where
-  pub no_fifo : was_looked_up old name (Ok false)
+  pub between : Y
+  pub no_fifo : was_looked_up old name (Ok false) between
   pub first : F
-  pub opened : was_opened old name (Ok first) new
+  pub opened : was_opened between name (Ok first) new
   pub last : F
   pub error : Error
   pub unsized : was_sought first (Err error) last
 
 -- no image of a name is opened: it is a FIFO or can't be looked up, or its opening failed, or the file
 -- doesn't give its size
-abbrev pub OpenFails : {Y F : Type 0} → (Y → List ℕ → Result Bool Error → Type 0) → (Y → List ℕ → Result F Error → Y →
+abbrev pub OpenFails : {Y F : Type 0} → (Y → List ℕ → Result Bool Error → Y → Type 0) → (Y → List ℕ → Result F Error → Y →
     Type 0) → (F → Result ℕ Error → F → Type 0) → (old new : Y) → List ℕ → Type 0
 OpenFails was_looked_up was_opened was_sought old new name =
     IsPassedOver was_looked_up old new name

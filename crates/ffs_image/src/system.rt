@@ -49,8 +49,9 @@ pub trait System {
     /// A file that it opens.
     type File: RawFile + Drop;
 
-    /// It was asked whether a name is that of a FIFO: the name, and the answer.
-    ghost was_looked_up: { Self → List ℕ → Result Bool Error → Type 0 };
+    /// It was asked whether a name is that of a FIFO: the system before, the name, the answer, and
+    /// the system after.
+    ghost was_looked_up: { Self → List ℕ → Result Bool Error → Self → Type 0 };
 
     /// It was asked to open a file for reading: the system before, the name, the answer, and the
     /// system after.
@@ -60,16 +61,16 @@ pub trait System {
     ///
     /// # Errors
     /// There is no such name, or it can't be looked up.
-    fn is_fifo(&self, name: &str) -> io::Result<bool>
-        ensures { was_looked_up self.now name.now result };
+    fn is_fifo(&mut self, name: &str) -> io::Result<bool>
+        ensures { was_looked_up self.old name.now result self.new };
 
-    /// Opens the file of this name for reading. It was looked up before: the opening of a FIFO
+    /// Opens the file of this name for reading. It was looked up just before: the opening of a FIFO
     /// would wait for a writer.
     ///
     /// # Errors
     /// It can't be opened.
     fn open_to_read(&mut self, name: &str) -> io::Result<Self::File>
-        requires { was_looked_up self.old name.now (Ok false) }
+        requires { (before : Self) × was_looked_up before name.now (Ok false) self.old }
         ensures { was_opened self.old name.now result self.new };
 }
 
@@ -96,12 +97,12 @@ impl<R: Files<File = File>> System for R {
 
     ghost use Rattle.std.specs.Prelude.{⊤};
 
-    ghost was_looked_up = { λ _ _ _. ⊤ };
+    ghost was_looked_up = { λ _ _ _ _. ⊤ };
 
     ghost was_opened = { λ _ _ _ _. ⊤ };
 
-    fn is_fifo(&self, name: &str) -> io::Result<bool> {
-        Ok(fs::metadata(self, name)?.file_type().is_fifo())
+    fn is_fifo(&mut self, name: &str) -> io::Result<bool> {
+        Ok(fs::metadata(&*self, name)?.file_type().is_fifo())
     }
 
     fn open_to_read(&mut self, name: &str) -> io::Result<File> {

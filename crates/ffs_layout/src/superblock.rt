@@ -3,7 +3,7 @@
 ghost use Rattle.std.specs.Prelude.{MatchResult, IfSome, false, ℕ, ◌^◌, IsTrue, nat_le, ◌==◌, ◌≡◌, ◌+◌, ◌*◌, ◌<◌, ◌≤◌};
 ghost use Rattle.std.specs.List.{list_all};
 ghost use Rattle.ffs_volume.specs.{Disk.{Numbers.u32_at, Superblock.{layout_of, order_of}}, Report.Reads.opening_reads};
-ghost use Rattle.ffs_volume.specs.{Disk.Superblock.superblock_of, declared.constants.TheConstants.SUPERBLOCK_BYTES};
+ghost use Rattle.ffs_volume.specs.{Disk.{Outcome.super_sector, Superblock.superblock_of}, declared.constants.TheConstants.{DEV_BSIZE, SUPERBLOCK_BYTES}};
 ghost use Rattle.ffs_layout.specs.{Accepted.IsAccepted, Copies.{ComparesCopy, ReadsSuperblockBytes}, Super.ReadsSuper};
 ghost use Rattle.ffs_layout.specs.Super.{IsUnreadable, found_of, may_read_copy, superblock_in};
 
@@ -62,6 +62,8 @@ fn read_superblock_bytes<I: Image>(
     ensures copied { ReadsSuperblockBytes (I.device image.old) (I.device image.new) at out.new
         result }
     ensures counted { I.reads image.new ≤ I.reads image.old + 1 }
+    ensures short { (I.device image.old).size < at + SUPERBLOCK_BYTES
+        → I.reads image.new ≤ I.reads image.old }
 {
     if image.size() < at + SUPERBLOCK_BYTES as u64 {
         return Err(SuperFault::CannotRead {
@@ -196,6 +198,10 @@ pub fn read_super<I: Image>(image: &mut I, sector: Option<u32>) -> Result<Super,
     ensures reads { I.reads image.new ≤ I.reads image.old + opening_reads }
     ensures once { may_read_copy sector (found_of result) ≡ false
         → I.reads image.new ≤ I.reads image.old + 1 }
+
+    // An image that ends before the superblock does isn't read.
+    ensures short { (I.device image.old).size < super_sector sector * DEV_BSIZE + SUPERBLOCK_BYTES
+        → I.reads image.new ≤ I.reads image.old }
 {
     let start = u64::from(sector.unwrap_or(SUPERBLOCK_SECTOR as u32)) * DEV_BSIZE;
     let mut bytes = [0; SUPERBLOCK_BYTES];

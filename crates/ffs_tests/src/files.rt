@@ -74,11 +74,11 @@ impl RawFile for LetterFile {
 impl System for Letters {
     type File = LetterFile;
 
-    ghost was_looked_up = { λ _ _ _. ⊤ };
+    ghost was_looked_up = { λ _ _ _ _. ⊤ };
 
     ghost was_opened = { λ _ _ _ _. ⊤ };
 
-    fn is_fifo(&self, _name: &str) -> io::Result<bool> {
+    fn is_fifo(&mut self, _name: &str) -> io::Result<bool> {
         Ok(self.fifo)
     }
 
