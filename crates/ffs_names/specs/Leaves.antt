@@ -1,6 +1,6 @@
 -- What calls do and leave that read a directory, and how often they read the image.
 use Rattle.std.specs.Prelude.{◌≡◌, ℕ, ◌+◌, ◌<◌, ◌≤◌, Bool, true, ◌||◌, List, [], None, Ok, Result, OnOk, vec_len}
-use Rattle.std.specs.Prelude.{IfOk, IfSome, MatchOption, MatchResult, OnErr, Option, if◌then◌else◌, is_some}
+use Rattle.std.specs.Prelude.{IfNone, IfOk, IfSome, MatchOption, MatchResult, OnErr, Option, if◌then◌else◌, is_some}
 use Rattle.ffs_image.specs.{Device.{Device, ForContents}, Reads.ReadAfter, declared.image.Image.Ghosts}
 use Rattle.ffs_image.specs.declared.image.ImageFault.{ImageFault}
 use Rattle.ffs_walk.specs.declared.{blocks.Blocks.Blocks, window.Window.Window}
@@ -95,6 +95,10 @@ pub record LooksForGap (old new : DirWalk) (result : Result Bool ImageFault) : T
   pub fault : OnErr result ((b : List ℕ) → HasSeenAll b new.chunks)
   pub runs : CountsRuns old.image.contents old.chunks new.chunks result
   pub leaves : LeavesWalk old new result
+
+-- the bytes into which a call reads the next chunk stay, where it gives none and where a read failed
+abbrev pub StaysUngiven : (old new : List ℕ) → Result (Option ℕ) ImageFault → Type 0
+StaysUngiven old new result = MatchResult result (λ o. IfNone o (new ≡ old)) (λ _. new ≡ old)
 
 -- what a call leaves that reads a chunk
 pub record LeavesChunks {T : Type 0} (old new : DirReading Chunks) (result : Result T ImageFault) : Type 0 where

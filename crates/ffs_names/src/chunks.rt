@@ -42,7 +42,7 @@ impl Chunks {
     ghost use Rattle.ffs_names.specs.Costs.{to_read, BeginsByClass, BeginsReading, HoldsReading, SeesRun};
     ghost use Rattle.ffs_names.specs.RunCursors.{last_place, IsGivenChunk, StepsOn};
     ghost use Rattle.ffs_names.specs.Readings.{all_chunks, rest, CanSee, ContinuesTo, CountsNoMore, FindsNextRun, GivesChunk, HasSeenAll, IsEnded, IsSame};
-    ghost use Rattle.ffs_names.specs.Leaves.{dir_reading, dir_walk, LeavesChunks, NextChunkLeaves, LeavesWalk, ReadsForSteps};
+    ghost use Rattle.ffs_names.specs.Leaves.{dir_reading, dir_walk, LeavesChunks, NextChunkLeaves, LeavesWalk, ReadsForSteps, StaysUngiven};
 
     /// Looks at the Run that comes next in the walk: one of data that is kept whole, and is in
     /// range, becomes the current Run. Any other has no chunks.
@@ -114,6 +114,7 @@ impl Chunks {
             window.old }
         ensures chunk { IfOk result (λ offset. ForContents (I.device image.old).contents
             (λ b. GivesChunk b (all_chunks b) self.old self.new chunk.new offset)) }
+        ensures ungiven { StaysUngiven chunk.old chunk.new result }
         ensures place { IfOk result (λ o. IfSome o (λ _. IsGivenChunk self.old.walk.geometry.layout
             (I.device image.old).contents self.new.run_cursor chunk.new)) }
         ensures steps { IfOk result (λ o. IfSome o (λ _.
@@ -206,6 +207,9 @@ impl Chunks {
             window.old }
         ensures chunk { IfOk result (λ offset. ForContents (I.device image.old).contents
             (λ b. GivesChunk b (rest b) self.old self.new chunk.new offset)) }
+
+        // Where no chunk is given, and where a read failed, what was in `chunk` stays.
+        ensures ungiven { StaysUngiven chunk.old chunk.new result }
         ensures reads { HoldsReading blocks.old window.old self.old
             → ForContents (I.device image.old).contents (λ b. TakesReads (I.reads image.old)
             (I.reads image.new) (to_read b self.old) (to_read b self.new)

@@ -1,6 +1,6 @@
 //! The chunks of one Run of a directory.
 
-ghost use Rattle.std.specs.Prelude.{◌≡◌, ◌+◌, ◌*◌, ◌≤◌, ◌^◌, OnOk};
+ghost use Rattle.std.specs.Prelude.{◌≡◌, ◌+◌, ◌*◌, ◌≤◌, ◌^◌, OnErr, OnOk};
 ghost use Rattle.ffs_image.specs.Device.{ForContents};
 ghost use Rattle.ffs_volume.specs.{Disk.Numbers.piece, declared.constants.TheConstants.DIRBLKSIZ};
 
@@ -92,6 +92,7 @@ impl RunCursor {
         requires { CanReadRun self.now (I.device image.old) window.old }
         ensures chunk { OnOk result (ForContents (I.device image.old).contents
             (λ b. chunk.new ≡ piece (self.now.place + DIRBLKSIZ * self.now.next) DIRBLKSIZ b)) }
+        ensures unread { OnErr result (chunk.new ≡ chunk.old) }
         ensures leaves { LeavesRun self.now (run_reading I.Image image.old window.old)
             (run_reading I.Image image.new window.new) result }
     {
