@@ -1,6 +1,6 @@
 //! The first kept offers of fragments that have a DUP line, reported once each.
 
-ghost use Rattle.std.specs.{List.range_with_len, Prelude.{◌≡◌, [], ◌∷◌, map}};
+ghost use Rattle.std.specs.{List.range_with_len, Prelude.{◌≡◌, [], ◌∷◌, OnErr, OnOk, map}};
 ghost use Rattle.ffs_volume.specs.Blocks.{BlockCheck.first_offer_lines, KeptOffers.offer_of};
 ghost use Rattle.ffs_report.specs.Progress.{progress, Says};
 ghost use Rattle.ffs_maps.specs.Bits.{bits_of};
@@ -13,7 +13,7 @@ use ffs_volume::BlockMessage;
 use ffs_workspace::Workspace;
 
 /// Reports a kept offer, and marks its inode, where its fragment has a DUP line whose first kept
-/// offer isn't reported yet: then it is that one.
+/// offer isn't reported yet: then it is that one. Where the output fails it counts as not reported.
 fn report_offer<W: Output>(
     geometry: &Geometry,
     workspace: &mut Workspace,
@@ -26,8 +26,9 @@ fn report_offer<W: Output>(
         (of_lines (first_offer_lines (bits_of workspace.old.duplicates)
         (offer_of number fragment ∷ [])))
         result }
-    ensures reported { ReportsOffer geometry.now.layout (offer_of number fragment) workspace.old
-        workspace.new }
+    ensures reported { OnOk result (ReportsOffer geometry.now.layout (offer_of number fragment)
+        workspace.old workspace.new) }
+    ensures unreported { OnErr result (workspace.new ≡ workspace.old) }
 {
     // Of a bad Run: nothing there is dup.
     if fragment >= u64::from(geometry.layout.size) {
@@ -37,12 +38,13 @@ fn report_offer<W: Output>(
     if !workspace.duplicates.get(index) {
         return Ok(());
     }
-    workspace.duplicates.clear(index);
-    workspace.marked.set(number as usize, true);
     report.say(&Line::Block(BlockMessage::Dup {
         fragment: index,
         inode: number,
-    }))
+    }))?;
+    workspace.duplicates.clear(index);
+    workspace.marked.set(number as usize, true);
+    Ok(())
 }
 
 /// Reports, one after another, those of the kept offers of a Run that are the first of a fragment

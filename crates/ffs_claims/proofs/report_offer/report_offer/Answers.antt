@@ -16,6 +16,7 @@ returns-then-fragment-from g c =
         reported = record { duplicates = sym (rw out refl); marked = λ x. rw out (sym (or-false _)) };
         only = offers_reported_none c.requires.made;
       };
+      unreported = tt;
     }
 
 pub returns-clause-reported : goal.returns-clause-reported

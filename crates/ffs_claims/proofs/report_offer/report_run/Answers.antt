@@ -1,8 +1,8 @@
-use Rattle.std.proofs.{Common.{◌+◌, ◌∷◌, [], arith, refl}, lemmas.Result.err_from_is_err_and}
+use Rattle.std.proofs.{Common.{◌+◌, ◌∷◌, [], ap, arith, refl}, lemmas.Result.err_from_is_err_and}
 use Rattle.ffs_volume.specs.Blocks.{KeptOffers.{offer_of}}
 use Rattle.ffs_report.proofs.Reporting.{to_begins, to_says, to_stops, to_ends}
 use Rattle.ffs_claims.proofs.{Frames.{offers_reported_then}, Reportings.{run_next, run_over}}
-use Rattle.ffs_claims.proofs.Reportings.{reporting_begins, reporting_more, reporting_ends, lines_split, part_all, part_then}
+use Rattle.ffs_claims.proofs.Reportings.{reporting_begins, reporting_more, reporting_ends, lines_split, part_now}
 use Rattle.ffs_claims.proofs.report_offer.report_run.Goals as goal
 
 pub loop-index-init : goal.loop-index-init
@@ -12,12 +12,13 @@ pub returns-in_err-report_offer-clause-reported : goal.returns-in_err-report_off
 returns-in_err-report_offer-clause-reported g c =
     let f = c.from.result + c.from-in-loop-index.result in
     let next = run_next c.args.number c.args.start c.args.len c.loop-index.index f c.loop-index-test.true (omega arith) in
+    let stays = c.in_err-report_offer.ensures.unreported in
     rw ((err_from_is_err_and c.from_residual.result c.from_residual.ensures.1).1) (record {
       said = to_stops _ _ _ _ _ _ _ c.loop-index.invariant.said
           (lines_split _ _ _ (offer_of c.args.number f ∷ []) _ next refl) c.in_err-report_offer.ensures.said;
       reported = tt;
-      part = part_then _ c.loop-index.invariant.reported next (part_all c.report_offer.ensures.reported.reported);
-      only = (offers_reported_then c.loop-index.invariant.only c.report_offer.ensures.reported.only).reporting;
+      part = part_now c.loop-index.invariant.reported (ap (λ w. w.duplicates) stays) (ap (λ w. w.marked) stays);
+      only = rw stays c.loop-index.invariant.only.reporting;
     })
 
 pub loop-index-preserved : goal.loop-index-preserved
@@ -27,10 +28,10 @@ loop-index-preserved g c =
     let f = c.from.result + c.from-in-loop-index.result in
     let next = run_next n c.args.start c.args.len c.loop-index.index f c.loop-index-test.true (omega arith) in
     record {
-      only = offers_reported_then inv.only c.report_offer.ensures.reported.only;
-      reported = reporting_more inv.reported next c.report_offer.ensures.reported.reported;
+      only = offers_reported_then inv.only c.in_ok-report_offer.ensures.reported.only;
+      reported = reporting_more inv.reported next c.in_ok-report_offer.ensures.reported.reported;
       said = to_says _ _ _ _ _ _ _ inv.said
-          (lines_split _ _ _ (offer_of n f ∷ []) _ next c.report_offer.ensures.reported.reported.duplicates)
+          (lines_split _ _ _ (offer_of n f ∷ []) _ next c.in_ok-report_offer.ensures.reported.reported.duplicates)
           c.in_ok-report_offer.ensures.said;
     }
 
