@@ -83,4 +83,5 @@ KINDS = [
     Kind("be", "12m", SMALL, make_large_tree, "large file"),
     Kind("le", "4m", "version=1,bsize=4096,fsize=512,density=4096", make_directories, "last part"),
     Kind("be", "4m", "version=1,bsize=4096,fsize=512,density=4096", make_directories, "last part"),
+    Kind("le", "48m", "version=1,bsize=65536,fsize=16384,density=16384", make_directories, "fragments of 16,384"),
 ]

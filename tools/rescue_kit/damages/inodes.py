@@ -45,6 +45,46 @@ def mode_zero(case):
     mend(case, i, "mode", mode="100644")
 
 
+@damage("the modes of two files became 0, and the bytes of both are copied before one is mended")
+def two_modes_zero(case):
+    paths = ("docs/letter", "mail/in/one")
+    for path in paths:
+        case.volume.put_inode(case.volume.find(path), mode=0)
+    case.at_stake(*paths)
+    report = case.report("PARTIALLY ALLOCATED INODE", "UNALLOCATED")
+    for message in report.of("PARTIALLY ALLOCATED INODE"):
+        case.run("bytes", i=message["inode"])
+
+
+@damage("a file's mode became 0, and the disk is full when it is mended")
+def mode_zero_full(case):
+    case.volume.put_inode(case.volume.find("docs/letter"), mode=0)
+    case.at_stake("docs/letter")
+    i = case.report("PARTIALLY ALLOCATED INODE").first("PARTIALLY ALLOCATED INODE")["inode"]
+    case.on_full_disk("further place mode check keep", i=i, mode="100644")
+    mend(case, i, "mode", mode="100644")
+
+
+@damage("a file has a hole of 64 MB")
+def hole(case):
+    i = case.volume.find("big/film")
+    case.volume.put_inode(i, size=64 << 20)
+    case.at_stake("big/film")
+    case.report()
+    case.run("names bytes", i=i)
+    if os.stat(f"{case.place}/saved.{i}").st_blocks > 1 << 12:
+        raise Wrong("the hole takes place on the disk")
+
+
+@damage("a word of an indirect block became a free block, and the shell has `set -e`")
+def strict_shell(case):
+    damage_word(case, 17, free_block(case))
+    case.report("BLK(S) MISSING IN BIT MAPS")
+    for recipe in ("lost", "marked-free", "list", "rest"):
+        case.strictly(recipe)
+    mend_free(case)
+
+
 @damage("a directory's mode became 0")
 def directory_mode_zero(case):
     case.volume.put_inode(case.volume.find("docs/names"), mode=0)

@@ -197,6 +197,14 @@ def length_zero(case):
     mend_lengths(case, report.first("DIRECTORY CORRUPTED")["inode"])
 
 
+@damage("an entry's record length became more than a chunk")
+def length_beyond_chunk(case):
+    case.volume.put(case.volume.entry("mail/in/two") + 4, 2, 0x8000 + 480)
+    case.at_stake("mail/in/two")
+    report = case.report("DIRECTORY CORRUPTED", "UNREF")
+    mend_lengths(case, report.first("DIRECTORY CORRUPTED")["inode"])
+
+
 @damage("an entry's record length became that of several entries")
 def length_too_large(case):
     place = case.volume.entry("docs/names/a_rather_long_name_of_a_file_050")
@@ -227,11 +235,22 @@ def name_too_long(case):
     place = case.volume.entry("docs/names/a_rather_long_name_of_a_file_120")
     case.volume.put(place + 7, 1, 250)
     at_stake_in_names(case)
-    report = case.report("DIRECTORY CORRUPTED", "UNREF")
+    mend_names(case, case.report("DIRECTORY CORRUPTED", "UNREF"))
+
+
+def mend_names(case, report):
+    """Puts lengths of names that aren't those of the names into a further copy, and checks it."""
     case.run("further")
     for entry in entries_of_inode(case, report.first("DIRECTORY CORRUPTED")["inode"]):
         if entry.name_length != len(entry.name):
             case.run("name-length check", e=entry.byte, n=len(entry.name))
+
+
+@damage("the length of name of the last entry in its chunk became more than the chunk")
+def last_name_too_long(case):
+    case.volume.put(case.volume.entry("mail/in/two") + 7, 1, 255)
+    case.at_stake("mail/in/two")
+    mend_names(case, case.report("DIRECTORY CORRUPTED", "UNREF"))
 
 
 @damage("a directory's chunk became zeros")
