@@ -104,9 +104,9 @@ class Case:
             self.pieces += [("unnamed", data) for data in tree_of_files(f"{self.place}/unnamed.d").values()]
             shutil.rmtree(f"{self.place}/unnamed.d")
 
-    def complaints(self, recipe):
+    def complaints(self, recipe, first=""):
         """What a recipe prints on standard error; nothing of what it saves is kept."""
-        run = self.page.run(recipe, {}, self.place)
+        run = self.page.run(recipe, {}, self.place, first=first)
         for name in ("saved.d", "every.d"):
             shutil.rmtree(f"{self.place}/{name}", ignore_errors=True)
         return run.stderr.decode("utf-8", "surrogateescape")

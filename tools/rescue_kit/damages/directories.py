@@ -44,6 +44,33 @@ def size_cut(case):
     mend_size(case, case.report("UNKNOWN FILE TYPE").first("UNKNOWN FILE TYPE")["inode"])
 
 
+@damage("a directory's size became 512, and a file's mode became 0: no check ends with 0 before both are mended")
+def size_cut_and_mode(case):
+    case.volume.put_inode(case.volume.find("docs/letter"), mode=0)
+    put_names(case, size=512)
+    case.at_stake("docs/letter")
+    report = case.report("UNKNOWN FILE TYPE", "PARTIALLY ALLOCATED INODE")
+    i = report.first("UNKNOWN FILE TYPE")["inode"]
+    for chunks in range(number_of(case.run("inode", i=i), "blocks"), 0, -1):
+        found = mend(case, i, "size", size=512 * chunks)
+        if not any(message.get("inode") == i for message in found):
+            break
+    case.run("keep")
+    mend(case, report.first("PARTIALLY ALLOCATED INODE")["inode"], "mode", mode="100644")
+
+
+@damage("a directory's mode became 0, and the number of an entry below it none of the volume's")
+def below_directory(case):
+    case.volume.put(case.volume.entry("mail/in/one"), 4, 99999)
+    case.volume.put_inode(case.volume.find("mail"), mode=0)
+    case.at_stake(*[path for path in case.tree if path.startswith("mail")])
+    report = case.report("PARTIALLY ALLOCATED INODE", "UNALLOCATED")
+    found = mend(case, report.first("PARTIALLY ALLOCATED INODE")["inode"], "mode", mode="40755")
+    case.run("keep")
+    e = place_of(case, found.first("I OUT OF RANGE")["path"])
+    case.run("further number check", e=e, i=found.first("UNREF")["inode"])
+
+
 @damage("a directory's size became 512, within its block")
 def size_within_block(case):
     case.volume.put_inode(case.volume.find("docs/pages"), size=512)

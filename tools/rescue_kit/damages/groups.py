@@ -58,6 +58,15 @@ def group_and_further(case):
     case.run("keep every")
 
 
+@damage("the disk is full when the list of attributes is made")
+def attributes_full(case):
+    case.at_stake("docs/letter")
+    case.report()
+    if "No space" not in case.complaints("attributes", first="mkdir -p full && cd full && cp ../rescue.sh . && ln -s ../copy.img . && ln -s /dev/full saved.list\n"):
+        raise Wrong("a list that can't be written isn't said to be one")
+    case.run("names all")
+
+
 @damage("a cylinder group's block and a file's inode became zeros")
 def group_and_inode_zeroed(case):
     volume, path = case.volume, "docs/report"
