@@ -18,6 +18,8 @@
 #   last_copy                the sector of the superblock's copy in the last group, by its superblock
 #   groups                   of each group the fragment at which its block begins, and the bytes of its inode map, by its superblock
 #   all_used                 makes every.img, a copy in which all maps of inodes say that all are in use, and those of fragments begin after them
+#   recover IMAGE PLACE [I]  copies what has a name (below directory I) into a directory by tsk_recover of Sleuthkit. That would write elsewhere
+#                            where a name is or has in it `..`, beside slashes: then nothing is copied
 #   put BYTE WIDTH NUMBER    writes a number of so many bytes into further.img, in the byte order of the image
 #   entries FIRST LENGTH [I] what looks like an entry in these bytes, of inode I alone where it is given, also where no directory
 #                            has it: byte, number, record length, type, length of the name, name (control bytes are shown as ?)
@@ -112,6 +114,12 @@ all_used() (
     fi
 )
 
+recover() (
+    away=$(fls -r -u -p -f ufs1 "$1" ${3:+"$3"} | awk -F "\t" '("/" $2 "/") ~ "/[.][.]/"') || exit 1
+    [ -z "$away" ] || { complain "recover: of $1 nothing is copied, since a name leads out of $2: $away"; exit 1; }
+    tsk_recover -a ${3:+-d "$3"} -f ufs1 "$1" "$2"
+)
+
 put() {
     [ $# = 3 ] || { complain "put: wants a byte, a width and a number, and was given: $*"; return 1; }
     perl -e '($order, $at, $width, $number) = @ARGV;
@@ -131,9 +139,9 @@ entries() {
             return if $k % 4 || $k % 512 > 500;
             ($number, $record, $type, $count) = unpack $fields, substr $piece, $k, 8;
             return if $type < 1 || $type > 14;
-            return if substr($piece, $k + 8, 504 - $k % 512) !~ /^([^\0\/]{1,255})\0/;
+            return if substr($piece, $k + 8, 504 - $k % 512) !~ /^([^\0]{1,255})\0/;
             $name = $1;
-            return if $record > 512 ? $count != length $name || $name =~ /[^ -~]/
+            return if $record > 512 || $name =~ m{/} ? $count != length $name || $name =~ /[^ -~]/
                 : $count != length $name && $record != (length($name) + 12 & ~3) && $record != 512 - $k % 512;
             $name =~ tr/\1-\37\177/?/;
             print $at + $k, " $number $record $type $count $name\n";

@@ -68,6 +68,8 @@ class Volume:
         layout = self.layout
         size = Inode(self.image, layout, i).size
         for run in self.runs(i):
+            if run.block is None:
+                continue
             first = run.block * layout.bsize
             for chunk in range(0, min(run.length * layout.fsize, size - first), formats.CHUNK_BYTES):
                 start = run.start * layout.fsize + chunk

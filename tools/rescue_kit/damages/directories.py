@@ -299,6 +299,27 @@ def last_part_after_other(case):
     case.run("all")
 
 
+@damage("the inode of a directory of more than twelve blocks became zeros")
+def twelve_blocks(case):
+    if "long" not in case.tree:
+        raise NotHere
+    bsize = case.volume.layout.bsize
+    case.volume.zero(case.volume.layout.inode_place(case.volume.find("long")), 128)
+    case.at_stake(*[path for path in case.tree if path.startswith("long")])
+    i = case.report("UNALLOCATED", "UNREF").first("UNALLOCATED")["inode"]
+    case.run("further directories keep")
+    b, count = map(int, case.run("rising").split())
+    size = (12 + count) * bsize
+    found = mend_long(case, i, b, size, count)
+    while any(message.get("inode") == i for message in found):
+        size -= 512
+        found = mend_long(case, i, b, size, count)
+
+
+def mend_long(case, i, b, size, count):
+    return mend(case, i, "address size blocks", k=12, f=b, size=size, blocks=(12 + 1 + count) * case.volume.layout.bsize // 512)
+
+
 @damage("the inode of a directory whose first chunk has room became zeros")
 def first_chunk_with_room(case):
     volume, fsize = case.volume, case.volume.layout.fsize

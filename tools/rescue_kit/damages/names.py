@@ -253,6 +253,42 @@ def last_name_too_long(case):
     mend_names(case, case.report("DIRECTORY CORRUPTED", "UNREF"))
 
 
+@damage("a byte of an entry's name became a slash")
+def name_slash(case):
+    case.volume.image[case.volume.entry("docs/names/a_rather_long_name_of_a_file_050") + 8 + 15] = ord("/")
+    at_stake_in_names(case)
+    del case.stakes["docs/names/a_rather_long_name_of_a_file_050"]
+    mend_slashes(case, case.report("DIRECTORY CORRUPTED", "UNREF"))
+
+
+@damage("an entry's name leads to the copy that was kept")
+def name_leads_away(case):
+    away = b"../../../kept.img"
+    place = case.volume.entry("docs/names/a_rather_long_name_of_a_file_050")
+    case.volume.image[place + 7:place + 8 + 33] = bytes([len(away)]) + away + bytes(33 - len(away))
+    case.at_stake(*[path for path in case.tree if path not in SHORT_LINKS and not path.endswith("_050")])
+    report = case.report("DIRECTORY CORRUPTED", "UNREF")
+    with open(f"{case.place}/kept.img", "wb") as it:
+        it.write(b"kept")
+    for recipes in ("all", "every"):
+        if "leads out of" not in case.complaints(recipes):
+            raise Wrong(f"{recipes} follows the name")
+    if case.bytes_of("kept.img") != b"kept":
+        raise Wrong("the copy that was kept was overwritten")
+    mend_slashes(case, report)
+    case.run("keep all")
+
+
+def mend_slashes(case, report):
+    """Puts another byte for each slash of a name, and checks that."""
+    case.run("further")
+    for entry in entries_of_inode(case, report.first("DIRECTORY CORRUPTED")["inode"]):
+        for k, byte in enumerate(entry.name):
+            if byte == "/":
+                case.run("name-byte", e=entry.byte, k=k)
+    case.run("check")
+
+
 @damage("a directory's chunk became zeros")
 def chunk_zeroed(case):
     place = case.volume.entry("docs/names/a_rather_long_name_of_a_file_050")
