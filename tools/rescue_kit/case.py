@@ -96,6 +96,9 @@ class Case:
         self.pieces.append(("printed", printed))
         if os.path.isfile(f"{self.place}/rest"):
             self.pieces.append(("rest", self.bytes_of("rest")))
+        if os.path.isdir(f"{self.place}/below.d"):
+            self.pieces += [("below", data) for data in tree_of_files(f"{self.place}/below.d").values()]
+            shutil.rmtree(f"{self.place}/below.d")
         for name in ("saved.d", "every.d"):
             if os.path.isdir(f"{self.place}/{name}"):
                 self.trees.append(tree_of_files(f"{self.place}/{name}"))

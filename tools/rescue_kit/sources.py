@@ -67,6 +67,16 @@ def make_long_directory(top):
         it.write(b"small" * 99)
 
 
+def make_deep(top):
+    """Directories 140 deep, with a file in each."""
+    path = top
+    for number in range(140):
+        path += "/d"
+        os.makedirs(path)
+        with open(f"{path}/file_{number}", "wb") as it:
+            it.write(b"%d" % number * 9)
+
+
 @dataclass
 class Kind:
     """A kind of volume: its byte order, the size and words that makefs takes, how its tree is made, and a word of the damages that it has."""
@@ -96,5 +106,6 @@ KINDS = [
     Kind("be", "4m", "version=1,bsize=4096,fsize=512,density=4096", make_directories, "last part"),
     Kind("le", "8m", "version=1,bsize=4096,fsize=512,density=2048", make_long_directory, "twelve blocks"),
     Kind("be", "8m", "version=1,bsize=4096,fsize=512,density=2048", make_long_directory, "twelve blocks"),
+    Kind("le", "4m", "version=1,bsize=4096,fsize=512,density=4096", make_deep, "levels"),
     Kind("le", "48m", "version=1,bsize=65536,fsize=16384,density=16384", make_directories, "fragments of 16,384"),
 ]

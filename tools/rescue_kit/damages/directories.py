@@ -299,6 +299,16 @@ def last_part_after_other(case):
     case.run("all")
 
 
+@damage("files lie 140 levels deep")
+def deep(case):
+    if "d/file_0" not in case.tree:
+        raise NotHere
+    case.at_stake(*case.tree)
+    case.report()
+    last = max((line for line in case.run("names all").splitlines() if line.startswith("d/d ")), key=lambda line: line.count("/"))
+    case.run("below all-below", i=last.split()[1].rstrip(":"))
+
+
 @damage("the inode of a directory of more than twelve blocks became zeros")
 def twelve_blocks(case):
     if "long" not in case.tree:
