@@ -141,7 +141,7 @@ entries() {
             return if $type < 1 || $type > 14;
             return if substr($piece, $k + 8, 504 - $k % 512) !~ /^([^\0]{1,255})\0/;
             $name = $1;
-            return if $record > 512 || $name =~ m{/} ? $count != length $name || $name =~ /[^ -~]/
+            return if $record > 512 || $name =~ m{/} ? $count != length $name || $name =~ /[^ -~]/ || $number >> 24
                 : $count != length $name && $record != (length($name) + 12 & ~3) && $record != 512 - $k % 512;
             $name =~ tr/\1-\37\177/?/;
             print $at + $k, " $number $record $type $count $name\n";

@@ -5,6 +5,7 @@ import re
 from ..case import NotHere, Wrong, fragments_of, number_of, owners_of, places_of
 from ..sources import SHORT_LINKS
 from .all import damage
+from .names import entries_in
 
 WILD = 0x0BADF00D
 HIGH_BIT = 1 << 50
@@ -43,6 +44,28 @@ def mode_zero(case):
     i = report.first("PARTIALLY ALLOCATED INODE")["inode"]
     case.run("bytes", i=i)
     mend(case, i, "mode", mode="100644")
+
+
+@damage("a FIFO's mode became 0: nothing is left of it but its links")
+def fifo_mode_zero(case):
+    case.volume.put_inode(case.volume.find("pipe"), mode=0)
+    case.at_stake("pipe")
+    i = case.report("UNALLOCATED").first("UNALLOCATED")["inode"]
+    if not number_of(case.run("inode", i=i), "links"):
+        raise Wrong("it has no links")
+    if mend(case, i, "mode", mode="10600").status:
+        raise Wrong("it isn't consistent")
+
+
+@damage("a device's mode became 0")
+def device_mode_zero(case):
+    i, e = case.volume.find("pipe"), case.volume.entry("pipe")
+    case.volume.put_inode(i, mode=0, direct0=259)
+    case.volume.put(e + 6, 1, 2)
+    case.at_stake("pipe")
+    case.report("PARTIALLY ALLOCATED INODE", "UNALLOCATED")
+    if next(entry.type for entry in entries_in(case, "/") if entry.name == "pipe") != 2 or mend(case, i, "mode", mode="20600").status:
+        raise Wrong("its entry's type isn't that of a device, or it isn't consistent")
 
 
 @damage("the modes of two files became 0, and the bytes of both are copied before one is mended")
