@@ -1,7 +1,7 @@
 # shellcheck shell=sh
 # Functions for the recipes of READING.md, for sh and bash: they need perl and ffs_find. They read copy.img, and put, clear_inode,
-# exchange, directories, new_root, zeros and refill write to further.img. What can't be done is said on standard error, with status 1, and
-# nothing is written; directories says what it leaves.
+# older_magic, exchange, directories, new_root, zeros and refill write to further.img. What can't be done is said on standard error, with
+# status 1, and nothing is written; directories says what it leaves.
 #
 #   . ./rescue.sh            also sets order, bsize and fsize, and lets a variable that isn't set be an error (set -u)
 #
@@ -24,6 +24,7 @@
 #   entries FIRST LENGTH [I] what looks like an entry in these bytes, of inode I alone where it is given, also where no directory
 #                            has it: byte, number, record length, type, length of the name, name (control bytes are shown as ?)
 #   clear_inode I            makes inode I of further.img zeros
+#   older_magic              takes the magic of a UFS2 that was there before out of further.img, at the two places where Sleuthkit takes it for one
 #   exchange I J             exchanges the inodes I and J of further.img
 #   directories              puts anew in further.img the inode of each directory that has its `.` among the entries on standard input,
 #                            where that is free, in fragments that nothing has. What comes after its first fragment is taken
@@ -155,6 +156,16 @@ entries() {
             }
         }' "$order" $(($1)) $(($2)) ${3:+"$3"}
 }
+
+older_magic() (
+    found=
+    for at in 66908 263516; do
+        case $(dd if=copy.img bs=4 skip=$((at / 4)) count=1 status=none | od -A n -t x1 | tr -d ' ') in
+            19540119 | 19015419) found=$at && put "$at" 4 0 || exit 1 ;;
+        esac
+    done
+    [ "$found" ] || complain "older_magic: there is none of a UFS2 where Sleuthkit looks for it"
+)
 
 clear_inode() (
     p=$(place "$1") && dd if=/dev/zero of=further.img bs=128 seek=$((p / 128)) count=1 conv=notrunc,nocreat status=none

@@ -293,6 +293,20 @@ def fields(case):
             raise Wrong("the fields aren't as they were")
 
 
+@damage("there are traces of a UFS2 that was there before")
+def other_before(case):
+    magic = 262144 + 1372
+    clear = files_clear_of(case, magic, magic + 4)
+    below = tuple(path + "/" for path in case.tree if path not in clear)
+    case.volume.put(magic, 4, 0x19540119)
+    case.at_stake(*[path for path in clear if path not in sources.SHORT_LINKS and not path.startswith(below)], name=False)
+    case.report()
+    if "Invalid magic value" not in case.complaints("all"):
+        raise Wrong("Sleuthkit isn't led astray")
+    case.run("further older-magic keep all")
+    case.refuses("further older-magic")
+
+
 @damage("the superblock's own size is wrong in all copies")
 def own_size(case):
     volume = case.volume
