@@ -1,12 +1,12 @@
 # shellcheck shell=sh
 # Functions for the recipes of READING.md, for sh and bash: they need perl and ffs_find. They read copy.img, and put, clear_inode,
-# exchange, directories, new_root, zeros and refill write to further.img. What can't be done is said on standard error, with status 1, and
-# nothing is written; directories says what it leaves.
+# older_magic, exchange, directories, new_root, zeros and refill write to further.img. What can't be done is said on standard error, with
+# status 1, and nothing is written; directories says what it leaves.
 #
 #   . ./rescue.sh            also sets order, bsize and fsize, and lets a variable that isn't set be an error (set -u)
 #
 #   sizes                    sets order, bsize and fsize, as the first superblock in copy.img has them, and from=copy.img
-#   keep                     makes further.img the copy, and sets these anew
+#   keep                     makes further.img the copy, and sets these anew. What a full disk cut short isn't kept
 #   place I                  the byte where inode I lies
 #   maps                     what ffs_find lost prints of the image `from`, or a complaint
 #   lost                     the fragments that the maps mark and no inode has: first and last of each range, by ffs_find lost
@@ -17,10 +17,14 @@
 #   whole                    how many bytes the image should have, by its superblock
 #   last_copy                the sector of the superblock's copy in the last group, by its superblock
 #   groups                   of each group the fragment at which its block begins, and the bytes of its inode map, by its superblock
+#   all_used                 makes every.img, a copy in which all maps of inodes say that all are in use, and those of fragments begin after them
+#   recover IMAGE PLACE [I]  copies what has a name (below directory I) into a directory by tsk_recover of Sleuthkit. That would write elsewhere
+#                            where a name is or has in it `..`, beside slashes: then nothing is copied
 #   put BYTE WIDTH NUMBER    writes a number of so many bytes into further.img, in the byte order of the image
 #   entries FIRST LENGTH [I] what looks like an entry in these bytes, of inode I alone where it is given, also where no directory
 #                            has it: byte, number, record length, type, length of the name, name (control bytes are shown as ?)
 #   clear_inode I            makes inode I of further.img zeros
+#   older_magic              takes the magic of a UFS2 that was there before out of further.img, at the two places where Sleuthkit takes it for one
 #   exchange I J             exchanges the inodes I and J of further.img
 #   directories              puts anew in further.img the inode of each directory that has its `.` among the entries on standard input,
 #                            where that is free, in fragments that nothing has. What comes after its first fragment is taken
@@ -44,8 +48,15 @@ sizes() {
     order=$2 bsize=$3 fsize=$4 from=copy.img
 }
 
+# is_cut: whether further.img is shorter than the copy, and than its superblock says, which it has where the recipe surplus took sectors out
+is_cut() (
+    has=$(wc -c <further.img)
+    [ "$has" -lt "$(wc -c <copy.img)" ] && ! [ "$has" -ge "$(whole further.img)" ] 2>/dev/null
+)
+
 keep() {
     [ -s further.img ] || { complain "keep: there is no further.img, or it is empty"; return 1; }
+    ! is_cut || { complain "keep: further.img is shorter than copy.img, and than its superblock says (is the disk full?)"; return 1; }
     mv further.img copy.img && sizes
 }
 
@@ -54,9 +65,8 @@ place() {
 }
 
 maps() (
-    found=$(ffs_find lost "$from")
-    [ $? -le 1 ] || { complain "ffs_find lost: $found"; exit 1; }
-    echo "$found" | grep '^no map' >&2
+    found=$(ffs_find lost "$from") || [ $? = 1 ] || { complain "ffs_find lost: $found"; exit 1; }
+    echo "$found" | grep '^no map' >&2 || :
     echo "$found"
 )
 
@@ -66,17 +76,17 @@ lost() (
 )
 
 by_superblock() {
-    perl -e 'open F, "<", "copy.img" or die "copy.img: $!\n"; seek F, 8192, 0; read F, $super, 1376;
-        $magic = substr $super, 1372; $magic =~ /^(\0\x01\x19\x54|\x54\x19\x01\0)$/s or die "no superblock is at byte 8192 of copy.img\n";
+    perl -e '$name = $ARGV[0]; open F, "<", $name or die "$name: $!\n"; seek F, 8192, 0; read F, $super, 1376;
+        $magic = substr $super, 1372; $magic =~ /^(\0\x01\x19\x54|\x54\x19\x01\0)$/s or die "no superblock is at byte 8192 of $name\n";
         @super = unpack $magic =~ /^\0/ ? "N*" : "V*", $super;
         ($sblkno, $cblkno, $cgoffset, $cgmask, $size, $ncg, $fsize, $ipg, $fpg) = @super[2, 3, 6, 7, 9, 11, 13, 46, 47];
         sub start { my $c = shift; $c * $fpg + $cgoffset * ($c & ~$cgmask & 0xffffffff) }
         print $size * $fsize, " ", (start($ncg - 1) + $sblkno) * $fsize / 512, "\n";
-        for ($c = 0; $c < $ncg; $c++) { print start($c) + $cblkno, " ", $ipg / 8, "\n" }'
+        for ($c = 0; $c < $ncg; $c++) { print start($c) + $cblkno, " ", $ipg / 8, "\n" }' "${1:-copy.img}"
 }
 
 whole() {
-    by_superblock | sed 's/ .*//; q'
+    by_superblock "$@" | sed 's/ .*//; q'
 }
 
 last_copy() {
@@ -86,6 +96,30 @@ last_copy() {
 groups() {
     by_superblock | sed 1d
 }
+
+all_used() (
+    found=$(groups | grep .) || { complain "all_used: every.img isn't made"; exit 1; }
+    if cp copy.img every.new && echo "$found" | perl -e '($order, $bsize, $fsize) = @ARGV; $word = $order eq "little" ? "V" : "N";
+        open F, "+<", "every.new" or die "every.new: $!\n";
+        while (<STDIN>) {
+            ($g, $length) = split;
+            $block = pack "x4 $word x84 $word$word x68", 0x90255, 168, 168 + $length;
+            seek F, $g * $fsize, 0; print F $block, "\377" x $length, "\0" x ($bsize - 168 - $length);
+        }
+        close F or die "every.new: $!\n"' "$order" "$bsize" "$fsize"; then
+        mv every.new every.img
+    else
+        rm -f every.new
+        complain "all_used: every.img isn't made (is the disk full?)"
+        exit 1
+    fi
+)
+
+recover() (
+    away=$(fls -r -u -p -f ufs1 "$1" ${3:+"$3"} | awk -F "\t" '("/" $2 "/") ~ "/[.][.]/"') || exit 1
+    [ -z "$away" ] || { complain "recover: of $1 nothing is copied, since a name leads out of $2: $away"; exit 1; }
+    tsk_recover -a ${3:+-d "$3"} -f ufs1 "$1" "$2"
+)
 
 put() {
     [ $# = 3 ] || { complain "put: wants a byte, a width and a number, and was given: $*"; return 1; }
@@ -105,10 +139,12 @@ entries() {
             my $k = shift;
             return if $k % 4 || $k % 512 > 500;
             ($number, $record, $type, $count) = unpack $fields, substr $piece, $k, 8;
-            return if $type < 1 || $type > 14 || $record > 512;
-            return if substr($piece, $k + 8, 504 - $k % 512) !~ /^([^\0\/]{1,255})\0/;
-            ($name = $1) =~ tr/\1-\37\177/?/;
-            return if $count != length $name && $record != (length($name) + 12 & ~3);
+            return if $type < 1 || $type > 14;
+            return if substr($piece, $k + 8, 504 - $k % 512) !~ /^([^\0]{1,255})\0/;
+            $name = $1;
+            return if $record > 512 || $name =~ m{/} ? $count != length $name || $name =~ /[^ -~]/ || $number >> 24
+                : $count != length $name && $record != (length($name) + 12 & ~3) && $record != 512 - $k % 512;
+            $name =~ tr/\1-\37\177/?/;
             print $at + $k, " $number $record $type $count $name\n";
         }
         for (seek F, $at, 0; $length > 0 && read F, $piece, $length < 1 << 20 ? $length : 1 << 20; $at += length $piece) {
@@ -120,6 +156,16 @@ entries() {
             }
         }' "$order" $(($1)) $(($2)) ${3:+"$3"}
 }
+
+older_magic() (
+    found=
+    for at in 66908 263516; do
+        case $(dd if=copy.img bs=4 skip=$((at / 4)) count=1 status=none | od -A n -t x1 | tr -d ' ') in
+            19540119 | 19015419) found=$at && put "$at" 4 0 || exit 1 ;;
+        esac
+    done
+    [ "$found" ] || complain "older_magic: there is none of a UFS2 where Sleuthkit looks for it"
+)
 
 clear_inode() (
     p=$(place "$1") && dd if=/dev/zero of=further.img bs=128 seek=$((p / 128)) count=1 conv=notrunc,nocreat status=none
@@ -198,7 +244,7 @@ joined() (
 
 rising() {
     lost_blocks | while read -r b; do
-        words "$b" | awk -v b="$b" '!$2 { z = 1; next } z || $2 <= last { bad = 1; exit } { last = $2; n++ } END { if (!bad && n) print b, n }'
+        words "$b" | awk -v b="$b" 'bad { next } !$2 { z = 1; next } z || $2 <= last { bad = 1; next } { last = $2; n++ } END { if (!bad && n) print b, n }'
     done
 }
 

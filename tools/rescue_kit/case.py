@@ -82,9 +82,8 @@ class Case:
         """Runs recipes of the page in one shell, and keeps what they save. The result: what they print, and whether they end with 0."""
         names = recipes.split()
         self.named += " " + recipes
-        for name in ("saved", "rest"):
-            if os.path.exists(f"{self.place}/{name}"):
-                os.remove(f"{self.place}/{name}")
+        if os.path.exists(f"{self.place}/rest"):
+            os.remove(f"{self.place}/rest")
         run = self.page.run(recipes, variables, self.place)
         text = run.stdout.decode("utf-8", "surrogateescape")
         self.texts.append(text)
@@ -95,10 +94,11 @@ class Case:
 
     def _collect(self, printed):
         self.pieces.append(("printed", printed))
-        for name in ("saved", "rest"):
-            if os.path.isfile(f"{self.place}/{name}"):
-                with open(f"{self.place}/{name}", "rb") as it:
-                    self.pieces.append((name, it.read()))
+        if os.path.isfile(f"{self.place}/rest"):
+            self.pieces.append(("rest", self.bytes_of("rest")))
+        if os.path.isdir(f"{self.place}/below.d"):
+            self.pieces += [("below", data) for data in tree_of_files(f"{self.place}/below.d").values()]
+            shutil.rmtree(f"{self.place}/below.d")
         for name in ("saved.d", "every.d"):
             if os.path.isdir(f"{self.place}/{name}"):
                 self.trees.append(tree_of_files(f"{self.place}/{name}"))
@@ -107,9 +107,9 @@ class Case:
             self.pieces += [("unnamed", data) for data in tree_of_files(f"{self.place}/unnamed.d").values()]
             shutil.rmtree(f"{self.place}/unnamed.d")
 
-    def complaints(self, recipe):
+    def complaints(self, recipe, first=""):
         """What a recipe prints on standard error; nothing of what it saves is kept."""
-        run = self.page.run(recipe, {}, self.place)
+        run = self.page.run(recipe, {}, self.place, first=first)
         for name in ("saved.d", "every.d"):
             shutil.rmtree(f"{self.place}/{name}", ignore_errors=True)
         return run.stderr.decode("utf-8", "surrogateescape")
@@ -122,6 +122,27 @@ class Case:
         if os.path.exists(f"{self.place}/further.img") and self.bytes_of("further.img") != self.bytes_of("copy.img"):
             raise Wrong(f"{recipes}: it complains, and has written")
 
+    def on_full_disk(self, recipes, **variables):
+        """Runs recipes where no file can become as long as the image: the copy must stay as it is, and no other copy may be left of it. The
+        result: what they print on standard error."""
+        copy = self.bytes_of("copy.img")
+        run = self.page.run(recipes, variables, self.place, first=f"trap '' XFSZ; ulimit -f {len(copy) // 512 // 2}\n")
+        if not run.stderr or self.bytes_of("copy.img") != copy or os.path.exists(f"{self.place}/every.img"):
+            raise Wrong(f"{recipes}: on a full disk there is no complaint, or what was cut short is kept")
+        return run.stderr.decode("utf-8", "surrogateescape")
+
+    def strictly(self, recipes, **variables):
+        """Runs recipes under `set -e`: they must print and save what they do without it."""
+        found = []
+        for first in ("", "set -e\n"):
+            for name in ("rest", "list"):
+                if os.path.exists(f"{self.place}/{name}"):
+                    os.remove(f"{self.place}/{name}")
+            run = self.page.run(recipes, variables, self.place, first=first)
+            found.append((run.returncode, run.stdout, *(self.bytes_of(name) for name in ("rest", "list") if os.path.exists(f"{self.place}/{name}"))))
+        if found[0] != found[1] or not any(found[0][1:]):
+            raise Wrong(f"{recipes}: under set -e it doesn't do what it does without")
+
     def bytes_of(self, name):
         with open(f"{self.place}/{name}", "rb") as it:
             return it.read()
@@ -130,7 +151,8 @@ class Case:
         data = self.tree[path]
         if not isinstance(data, bytes) or any(tree.get(path) == data for tree in self.trees):
             return True
-        return any(piece.rstrip(b"\0") == data or (name == "rest" and self.is_within(data, piece)) for name, piece in self.pieces)
+        saved = [("saved", self.bytes_of(name)) for name in os.listdir(self.place) if re.fullmatch(r"saved\.\d+", name)]
+        return any(piece.rstrip(b"\0") == data or (name == "rest" and self.is_within(data, piece)) for name, piece in self.pieces + saved)
 
     def is_within(self, data, piece):
         """Whether each fragment of a file is in a piece, in which they need not follow one another."""

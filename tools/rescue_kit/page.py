@@ -45,10 +45,10 @@ class Page:
         self.used.add(name)
         return self.recipes[name]
 
-    def run(self, recipes, variables, place):
-        """Runs recipes in one shell, after those variables are set and the page's functions are pasted."""
+    def run(self, recipes, variables, place, first=""):
+        """Runs recipes in one shell, after `first`, the page's functions are read, and those variables are set."""
         shutil.copy(f"{self.folder}/rescue.sh", place)
-        script = [self.recipe("setup"), *[f"{name}='{value}'\n" for name, value in variables.items()]]
+        script = [first, self.recipe("setup"), *[f"{name}='{value}'\n" for name, value in variables.items()]]
         script += [self.recipe(name) for name in recipes.split()]
         return subprocess.run(["sh", "-c", "".join(script)], cwd=place, capture_output=True, timeout=SECONDS, check=False)
 

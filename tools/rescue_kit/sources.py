@@ -56,6 +56,27 @@ def make_directories(top):
             it.write(b"%d" % number * 30)
 
 
+def make_long_directory(top):
+    """A directory of more than twelve blocks of 4,096 bytes, and a small one."""
+    os.makedirs(f"{top}/long")
+    os.makedirs(f"{top}/small")
+    for number in range(1100):
+        with open(f"{top}/long/a_rather_long_name_of_a_file_number_{number:05}", "wb") as it:
+            it.write(b"%d" % number * 5)
+    with open(f"{top}/small/file", "wb") as it:
+        it.write(b"small" * 99)
+
+
+def make_deep(top):
+    """Directories 140 deep, with a file in each."""
+    path = top
+    for number in range(140):
+        path += "/d"
+        os.makedirs(path)
+        with open(f"{path}/file_{number}", "wb") as it:
+            it.write(b"%d" % number * 9)
+
+
 @dataclass
 class Kind:
     """A kind of volume: its byte order, the size and words that makefs takes, how its tree is made, and a word of the damages that it has."""
@@ -83,4 +104,8 @@ KINDS = [
     Kind("be", "12m", SMALL, make_large_tree, "large file"),
     Kind("le", "4m", "version=1,bsize=4096,fsize=512,density=4096", make_directories, "last part"),
     Kind("be", "4m", "version=1,bsize=4096,fsize=512,density=4096", make_directories, "last part"),
+    Kind("le", "8m", "version=1,bsize=4096,fsize=512,density=2048", make_long_directory, "twelve blocks"),
+    Kind("be", "8m", "version=1,bsize=4096,fsize=512,density=2048", make_long_directory, "twelve blocks"),
+    Kind("le", "4m", "version=1,bsize=4096,fsize=512,density=4096", make_deep, "levels"),
+    Kind("le", "48m", "version=1,bsize=65536,fsize=16384,density=16384", make_directories, "fragments of 16,384"),
 ]

@@ -5,7 +5,7 @@ from images.reading import DIRECT, Inode, Layout, fields_at, number_at, order_of
 
 FORMAT = 0o170000
 SYMLINK = 0o120000
-LEVELS = 20
+LEVELS = 200
 
 
 class Volume:
@@ -68,6 +68,8 @@ class Volume:
         layout = self.layout
         size = Inode(self.image, layout, i).size
         for run in self.runs(i):
+            if run.block is None:
+                continue
             first = run.block * layout.bsize
             for chunk in range(0, min(run.length * layout.fsize, size - first), formats.CHUNK_BYTES):
                 start = run.start * layout.fsize + chunk

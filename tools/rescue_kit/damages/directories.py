@@ -44,6 +44,33 @@ def size_cut(case):
     mend_size(case, case.report("UNKNOWN FILE TYPE").first("UNKNOWN FILE TYPE")["inode"])
 
 
+@damage("a directory's size became 512, and a file's mode became 0: no check ends with 0 before both are mended")
+def size_cut_and_mode(case):
+    case.volume.put_inode(case.volume.find("docs/letter"), mode=0)
+    put_names(case, size=512)
+    case.at_stake("docs/letter")
+    report = case.report("UNKNOWN FILE TYPE", "PARTIALLY ALLOCATED INODE")
+    i = report.first("UNKNOWN FILE TYPE")["inode"]
+    for chunks in range(number_of(case.run("inode", i=i), "blocks"), 0, -1):
+        found = mend(case, i, "size", size=512 * chunks)
+        if not any(message.get("inode") == i for message in found):
+            break
+    case.run("keep")
+    mend(case, report.first("PARTIALLY ALLOCATED INODE")["inode"], "mode", mode="100644")
+
+
+@damage("a directory's mode became 0, and the number of an entry below it none of the volume's")
+def below_directory(case):
+    case.volume.put(case.volume.entry("mail/in/one"), 4, 99999)
+    case.volume.put_inode(case.volume.find("mail"), mode=0)
+    case.at_stake(*[path for path in case.tree if path.startswith("mail")])
+    report = case.report("PARTIALLY ALLOCATED INODE", "UNALLOCATED")
+    found = mend(case, report.first("PARTIALLY ALLOCATED INODE")["inode"], "mode", mode="40755")
+    case.run("keep")
+    e = place_of(case, found.first("I OUT OF RANGE")["path"])
+    case.run("further number check", e=e, i=found.first("UNREF")["inode"])
+
+
 @damage("a directory's size became 512, within its block")
 def size_within_block(case):
     case.volume.put_inode(case.volume.find("docs/pages"), size=512)
@@ -270,6 +297,37 @@ def last_part_after_other(case):
     case.run("keep")
     put_last_part(case, "names")
     case.run("all")
+
+
+@damage("files lie 140 levels deep")
+def deep(case):
+    if "d/file_0" not in case.tree:
+        raise NotHere
+    case.at_stake(*case.tree)
+    case.report()
+    last = max((line for line in case.run("names all").splitlines() if line.startswith("d/d ")), key=lambda line: line.count("/"))
+    case.run("below all-below", i=last.split()[1].rstrip(":"))
+
+
+@damage("the inode of a directory of more than twelve blocks became zeros")
+def twelve_blocks(case):
+    if "long" not in case.tree:
+        raise NotHere
+    bsize = case.volume.layout.bsize
+    case.volume.zero(case.volume.layout.inode_place(case.volume.find("long")), 128)
+    case.at_stake(*[path for path in case.tree if path.startswith("long")])
+    i = case.report("UNALLOCATED", "UNREF").first("UNALLOCATED")["inode"]
+    case.run("further directories keep")
+    b, count = map(int, case.run("rising").split())
+    size = (12 + count) * bsize
+    found = mend_long(case, i, b, size, count)
+    while any(message.get("inode") == i for message in found):
+        size -= 512
+        found = mend_long(case, i, b, size, count)
+
+
+def mend_long(case, i, b, size, count):
+    return mend(case, i, "address size blocks", k=12, f=b, size=size, blocks=(12 + 1 + count) * case.volume.layout.bsize // 512)
 
 
 @damage("the inode of a directory whose first chunk has room became zeros")

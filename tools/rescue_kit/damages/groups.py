@@ -42,6 +42,31 @@ def group_zeroed(case):
         raise Wrong(f"the recipe inodes has {len(numbers)} inodes")
 
 
+@damage("a cylinder group's block became zeros, and a file was mended in a further copy that isn't kept yet")
+def group_and_further(case):
+    volume = case.volume
+    volume.zero(volume.layout.group_place(0), volume.layout.bsize)
+    volume.put_inode(volume.find("docs/letter"), mode=0)
+    files_at_stake(case)
+    i = case.report("CG: BAD MAGIC NUMBER").first("PARTIALLY ALLOCATED INODE")["inode"]
+    case.run("further place mode", i=i, mode="100644")
+    further = case.bytes_of("further.img")
+    case.on_full_disk("every")
+    case.run("every")
+    if case.bytes_of("further.img") != further:
+        raise Wrong("the further copy isn't what it was")
+    case.run("keep every")
+
+
+@damage("the disk is full when the list of attributes is made")
+def attributes_full(case):
+    case.at_stake("docs/letter")
+    case.report()
+    if "No space" not in case.complaints("attributes", first="mkdir -p full && cd full && cp ../rescue.sh . && ln -s ../copy.img . && ln -s /dev/full saved.list\n"):
+        raise Wrong("a list that can't be written isn't said to be one")
+    case.run("names all")
+
+
 @damage("a cylinder group's block and a file's inode became zeros")
 def group_and_inode_zeroed(case):
     volume, path = case.volume, "docs/report"

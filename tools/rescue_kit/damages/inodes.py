@@ -5,6 +5,7 @@ import re
 from ..case import NotHere, Wrong, fragments_of, number_of, owners_of, places_of
 from ..sources import SHORT_LINKS
 from .all import damage
+from .names import entries_in
 
 WILD = 0x0BADF00D
 HIGH_BIT = 1 << 50
@@ -43,6 +44,68 @@ def mode_zero(case):
     i = report.first("PARTIALLY ALLOCATED INODE")["inode"]
     case.run("bytes", i=i)
     mend(case, i, "mode", mode="100644")
+
+
+@damage("a FIFO's mode became 0: nothing is left of it but its links")
+def fifo_mode_zero(case):
+    case.volume.put_inode(case.volume.find("pipe"), mode=0)
+    case.at_stake("pipe")
+    i = case.report("UNALLOCATED").first("UNALLOCATED")["inode"]
+    if not number_of(case.run("inode", i=i), "links"):
+        raise Wrong("it has no links")
+    if mend(case, i, "mode", mode="10600").status:
+        raise Wrong("it isn't consistent")
+
+
+@damage("a device's mode became 0")
+def device_mode_zero(case):
+    i, e = case.volume.find("pipe"), case.volume.entry("pipe")
+    case.volume.put_inode(i, mode=0, direct0=259)
+    case.volume.put(e + 6, 1, 2)
+    case.at_stake("pipe")
+    case.report("PARTIALLY ALLOCATED INODE", "UNALLOCATED")
+    if next(entry.type for entry in entries_in(case, "/") if entry.name == "pipe") != 2 or mend(case, i, "mode", mode="20600").status:
+        raise Wrong("its entry's type isn't that of a device, or it isn't consistent")
+
+
+@damage("the modes of two files became 0, and the bytes of both are copied before one is mended")
+def two_modes_zero(case):
+    paths = ("docs/letter", "mail/in/one")
+    for path in paths:
+        case.volume.put_inode(case.volume.find(path), mode=0)
+    case.at_stake(*paths)
+    report = case.report("PARTIALLY ALLOCATED INODE", "UNALLOCATED")
+    for message in report.of("PARTIALLY ALLOCATED INODE"):
+        case.run("bytes", i=message["inode"])
+
+
+@damage("a file's mode became 0, and the disk is full when it is mended")
+def mode_zero_full(case):
+    case.volume.put_inode(case.volume.find("docs/letter"), mode=0)
+    case.at_stake("docs/letter")
+    i = case.report("PARTIALLY ALLOCATED INODE").first("PARTIALLY ALLOCATED INODE")["inode"]
+    case.on_full_disk("further place mode check keep", i=i, mode="100644")
+    mend(case, i, "mode", mode="100644")
+
+
+@damage("a file has a hole of 64 MB")
+def hole(case):
+    i = case.volume.find("big/film")
+    case.volume.put_inode(i, size=64 << 20)
+    case.at_stake("big/film")
+    case.report()
+    case.run("names bytes", i=i)
+    if os.stat(f"{case.place}/saved.{i}").st_blocks > 1 << 12:
+        raise Wrong("the hole takes place on the disk")
+
+
+@damage("a word of an indirect block became a free block, and the shell has `set -e`")
+def strict_shell(case):
+    damage_word(case, 17, free_block(case))
+    case.report("BLK(S) MISSING IN BIT MAPS")
+    for recipe in ("lost", "marked-free", "list", "rest"):
+        case.strictly(recipe)
+    mend_free(case)
 
 
 @damage("a directory's mode became 0")

@@ -197,6 +197,14 @@ def length_zero(case):
     mend_lengths(case, report.first("DIRECTORY CORRUPTED")["inode"])
 
 
+@damage("an entry's record length became more than a chunk")
+def length_beyond_chunk(case):
+    case.volume.put(case.volume.entry("mail/in/two") + 4, 2, 0x8000 + 480)
+    case.at_stake("mail/in/two")
+    report = case.report("DIRECTORY CORRUPTED", "UNREF")
+    mend_lengths(case, report.first("DIRECTORY CORRUPTED")["inode"])
+
+
 @damage("an entry's record length became that of several entries")
 def length_too_large(case):
     place = case.volume.entry("docs/names/a_rather_long_name_of_a_file_050")
@@ -227,11 +235,58 @@ def name_too_long(case):
     place = case.volume.entry("docs/names/a_rather_long_name_of_a_file_120")
     case.volume.put(place + 7, 1, 250)
     at_stake_in_names(case)
-    report = case.report("DIRECTORY CORRUPTED", "UNREF")
+    mend_names(case, case.report("DIRECTORY CORRUPTED", "UNREF"))
+
+
+def mend_names(case, report):
+    """Puts lengths of names that aren't those of the names into a further copy, and checks it."""
     case.run("further")
     for entry in entries_of_inode(case, report.first("DIRECTORY CORRUPTED")["inode"]):
         if entry.name_length != len(entry.name):
             case.run("name-length check", e=entry.byte, n=len(entry.name))
+
+
+@damage("the length of name of the last entry in its chunk became more than the chunk")
+def last_name_too_long(case):
+    case.volume.put(case.volume.entry("mail/in/two") + 7, 1, 255)
+    case.at_stake("mail/in/two")
+    mend_names(case, case.report("DIRECTORY CORRUPTED", "UNREF"))
+
+
+@damage("a byte of an entry's name became a slash")
+def name_slash(case):
+    case.volume.image[case.volume.entry("docs/names/a_rather_long_name_of_a_file_050") + 8 + 15] = ord("/")
+    at_stake_in_names(case)
+    del case.stakes["docs/names/a_rather_long_name_of_a_file_050"]
+    mend_slashes(case, case.report("DIRECTORY CORRUPTED", "UNREF"))
+
+
+@damage("an entry's name leads to the copy that was kept")
+def name_leads_away(case):
+    away = b"../../../kept.img"
+    place = case.volume.entry("docs/names/a_rather_long_name_of_a_file_050")
+    case.volume.image[place + 7:place + 8 + 33] = bytes([len(away)]) + away + bytes(33 - len(away))
+    case.at_stake(*[path for path in case.tree if path not in SHORT_LINKS and not path.endswith("_050")])
+    report = case.report("DIRECTORY CORRUPTED", "UNREF")
+    with open(f"{case.place}/kept.img", "wb") as it:
+        it.write(b"kept")
+    for recipes in ("all", "every"):
+        if "leads out of" not in case.complaints(recipes):
+            raise Wrong(f"{recipes} follows the name")
+    if case.bytes_of("kept.img") != b"kept":
+        raise Wrong("the copy that was kept was overwritten")
+    mend_slashes(case, report)
+    case.run("keep all")
+
+
+def mend_slashes(case, report):
+    """Puts another byte for each slash of a name, and checks that."""
+    case.run("further")
+    for entry in entries_of_inode(case, report.first("DIRECTORY CORRUPTED")["inode"]):
+        for k, byte in enumerate(entry.name):
+            if byte == "/":
+                case.run("name-byte", e=entry.byte, k=k)
+    case.run("check")
 
 
 @damage("a directory's chunk became zeros")

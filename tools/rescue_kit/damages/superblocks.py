@@ -266,7 +266,10 @@ def gap_somewhere(case):
     at = (layout.copy_place(3) - 20 * layout.fsize) // SECTOR
     case.at_stake(*files_clear_of(case, at * SECTOR, layout.copy_place(3)))
     first, n = leave_out(case, at)
-    case.run("further gap check", at=first, n=n)
+    reports = {}
+    for place in range(first, layout.copy_place(2) // SECTOR, -(first - layout.copy_place(2) // SECTOR) // 16):
+        reports.setdefault(len(case.run("further gap check", at=place, n=n)), place)
+    case.run("further gap keep all", at=reports[min(reports)], n=n)
 
 
 @damage("the superblock's format of inodes is that of an older system")
@@ -288,6 +291,39 @@ def fields(case):
     with open(f"{case.place}/further.img", "rb") as it:
         if it.read() != right:
             raise Wrong("the fields aren't as they were")
+
+
+@damage("there are traces of a UFS2 that was there before")
+def other_before(case):
+    magic = 262144 + 1372
+    clear = files_clear_of(case, magic, magic + 4)
+    below = tuple(path + "/" for path in case.tree if path not in clear)
+    case.volume.put(magic, 4, 0x19540119)
+    case.at_stake(*[path for path in clear if path not in sources.SHORT_LINKS and not path.startswith(below)], name=False)
+    case.report()
+    if "Invalid magic value" not in case.complaints("all"):
+        raise Wrong("Sleuthkit isn't led astray")
+    case.run("further older-magic keep all")
+    case.refuses("further older-magic")
+
+
+@damage("the superblock's own size is wrong in all copies")
+def own_size(case):
+    volume = case.volume
+    for c in (None, *range(volume.layout.ncg)):
+        volume.put_superblock("sbsize", volume.layout.fsize + 1376, copy=c)
+    all_at_stake(case)
+    case.report()
+    case.run("further fields keep further last-copy check")
+
+
+@damage("of fragments of 16,384 bytes the superblock can't have the size that a kernel wants")
+def large_fragments(case):
+    if case.volume.layout.fsize != 16384:
+        raise NotHere
+    all_at_stake(case)
+    case.report()
+    case.run("further fields check")
 
 
 @damage("the image is a partition of a whole disk")
@@ -335,10 +371,11 @@ def cut_out(case, start_of):
 def write_back(case, disk, length, sectors):
     """Writes the copy back, and compares the whole disk: nothing but the partition may differ, and a disk that isn't there isn't made."""
     case.refuses("back", disk="nothing.img", start=START, sectors=sectors)
-    case.refuses("back", disk="disk.img", start=START)
-    case.run("back", disk="disk.img", start=START, sectors=sectors)
+    os.rename(f"{case.place}/disk.img", f"{case.place}/a disk.img")
+    case.refuses("back", disk="a disk.img", start=START)
+    case.run("back", disk="a disk.img", start=START, sectors=sectors)
     begin = START * SECTOR
-    if case.bytes_of("disk.img") != disk[:begin] + case.bytes_of("copy.img") + disk[begin + length:]:
+    if case.bytes_of("a disk.img") != disk[:begin] + case.bytes_of("copy.img") + disk[begin + length:]:
         raise Wrong("something beside the partition was written")
 
 
