@@ -27,8 +27,8 @@ pub fn keeping_is_by_rule()
     ensures { KeepingByRule }
 {}
 
-/// With nothing marked, the three checks of directories report nothing exactly where the
-/// directories are consistent.
+/// With nothing marked, and no inode of class Partial or Unknown, the three checks of directories
+/// report nothing exactly where the directories are consistent.
 pub fn silent_is_right()
     ensures { SilentIsRight }
 {}
@@ -51,9 +51,9 @@ pub fn stop_is_reported()
     ensures { StopIsReported }
 {}
 
-/// Each of the seven conditions of a consistent volume holds exactly where none of the messages
-/// that speak for it is reported, where the conditions on classes and Runs hold, and for links that
-/// on directories.
+/// The conditions of a consistent volume hold exactly where none of the messages that speak for
+/// them is reported, where the conditions on classes and Runs hold: each by itself, but those on
+/// directories, links and counts together.
 pub fn conditions_are_reported()
     ensures { ConditionsAreReported }
 {}

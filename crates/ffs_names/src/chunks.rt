@@ -234,7 +234,7 @@ impl Chunks {
         }
     }
 
-    /// Where the chunk that it gave last is in the image, in bytes.
+    /// Where the chunk that it gave last is in the image, in bytes, until it is asked for another.
     pub fn last_place(&self) -> u64
         ensures { result ≡ last_place self.now.run_cursor }
     {

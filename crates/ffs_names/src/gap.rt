@@ -40,8 +40,7 @@ fn find_gap<I: Image>(
 /// chunks has seen, and those that are left.
 ///
 /// # Errors
-/// A read of the image that failed. Then no chunk comes any more, and asked again it answers by the
-/// holes that were seen.
+/// A read of the image that failed. Then no chunk comes any more.
 #[inline(always)]
 pub fn gap_of<I: Image>(
     image: &mut I,
