@@ -1,5 +1,5 @@
 //! How a run gets its image: it opens it by its name, for reading alone.
-ghost use Rattle.std.specs.Prelude.{ℕ, List, MatchResult};
+ghost use Rattle.std.specs.Prelude.{◌≡◌, ℕ, List, MatchResult};
 
 use ffs_image::{Image, OpenFault, RawImage, System};
 
@@ -30,7 +30,8 @@ impl<Y: System> Opener for Y {
 
     ghost use Rattle.ffs_image.specs.System.{IsOpened, OpenFails};
 
-    ghost opens = { λ old name image new. IsOpened Y.System old new name image.source };
+    ghost opens = { λ old name image new. IsOpened Y.System old new name image.source
+        × (image.source.failures ≡ 0) };
 
     ghost refuses = { λ old name new. OpenFails Y.was_looked_up Y.was_opened Y.File.was_sought
         old new name };

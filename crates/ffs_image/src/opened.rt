@@ -1,6 +1,6 @@
 //! A file that is open for reading alone.
-ghost use Rattle.std.specs.{Prelude.{◌≡◌, length, IfOk, MatchResult}};
-ghost use Rattle.ffs_image.specs.{Device.ForContents, Interrupted.IsTriedAgain, Source.{GivesBytes, GivesSome}};
+ghost use Rattle.std.specs.{Prelude.{◌≡◌, ◌<◌, length, IfOk, MatchResult}};
+ghost use Rattle.ffs_image.specs.{Device.ForContents, Interrupted.{IsReadCaused, IsTriedAgain}, Source.{GivesBytes, GivesSome}};
 
 use crate::file::OpenFault;
 use crate::interrupted::is_interrupted;
@@ -17,6 +17,7 @@ pub struct OpenedFile<F: RawFile> {
     size: u64,
     failures: u64,
     ghost sized: { ForContents (F.contents file) (λ bytes. length bytes ≡ size) },
+    ghost caused: { ∥ IsReadCaused F.was_read failures ∥₁ },
 }
 
 /// Reads a file at a place, and again where a signal interrupts that. The bound of the loop is one
@@ -86,6 +87,7 @@ impl<F: RawFile> Source for OpenedFile<F> {
     }
 
     fn read_some(&mut self, at: u64, buf: &mut [u8]) -> Result<usize, SourceFault>
+        requires { 0 < length buf.old }
         ensures gives { GivesSome (⟦<OpenedFile<F> as Source>⟧.state self.old)
             (⟦<OpenedFile<F> as Source>⟧.state self.new) at buf.new result }
 
