@@ -29,6 +29,7 @@ returns-in-Ok g c =
           any = phases.reads.any;
         };
       };
+      requests = c.in_memory.ensures.requests;
       same_reference = c.run_to_end.ensures.same_reference;
     }
 
@@ -49,6 +50,7 @@ returns-in-Err g c =
               c.say_no_memory.ensures;
         };
       };
+      requests = c.in_memory.ensures.requests;
       same_reference = elim c.say_no_memory.ensures [
         | inl said ↦ said.0.output
         | inr stopped ↦ stopped.0.output
