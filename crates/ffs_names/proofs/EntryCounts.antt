@@ -57,5 +57,4 @@ pub looks_on : {T : Type 0} (b : List ℕ) (s : Bool) (c c' : Chunks) (blocks bl
     (reads reads' : ℕ) (result : Result T ImageFault) → s ≡ true
     → (HoldsReading blocks w c → TakesReads reads reads' (to_read b c) (to_read b c') (HoldsReading blocks' w' c') result)
     → HoldsBy blocks w s c → TakesReads reads reads' (reads_by b s c) (reads_by b s c') (HoldsBy blocks' w' s c') result
-looks_on b s c c' blocks blocks' w w' reads reads' result right took held =
-    grind (arith, takes_where, or_left, both_ways)
+looks_on b s c c' blocks blocks' w w' reads reads' result right took held = grind arith

@@ -94,29 +94,17 @@ chunks_of_one v a b g some inside = rw (one_replayed v a b g some inside, inside
 -- so it has the chunk at its address alone
 only_chunk_is : (v : Layout) (a : ℕ) (b : List ℕ) → IsAcceptedLayout v → (a == 0) ≡ false → is_run_in_range v a 1 ≡ true
     → chunks_in v b (one_chunk_at a) 0 ≡ chunk_of v.order 0 (piece (a * v.fsize) 512 b) ∷ []
-only_chunk_is v a b g some inside =
-    let low = g.sizes.fsize_low in
-    let one : min (1 * v.fsize / 512) ((512 - 0 * v.bsize) / 512) ≡ 1 = omega (arith, le-div 1 v.fsize 512) in
-    let place : a * v.fsize + 512 * 0 ≡ a * v.fsize = omega arith in
-    let offset : 0 * v.bsize + 512 * 0 ≡ 0 = omega arith in
-    chunks_of_one v a b g some inside ∙ rw (one, place, offset) refl
+only_chunk_is v a b g some inside = grind (arith, chunks_of_one)
 
 -- where nothing of the chunks is left, no read is, and none that was made is needed
 at_top : (c : Chunks) → IsEnded c → IsAtTop c.walk
 at_top c e = record { single = e.walk.single; double = e.walk.double; triple = e.walk.triple }
 
 pub ended_reads : (b : List ℕ) (s : Bool) (c : Chunks) → IsEnded c → reads_by b s c ≡ 0
-ended_reads b s c e = omega (
-  arith,
-  at_most b s c,
-  over_runs b c.walk c.walk.geometry.layout c.keeping.cut (replay_in c.keeping) e.walk,
-  top_unread c.walk (at_top c e),
-  run_over c.run_cursor e.cursor,
-)
+ended_reads b s c e = grind (arith, arith, at_most, over_runs, replay_in, top_unread, at_top, run_over)
 
 pub ended_held : (s : Bool) (c : Chunks) → IsEnded c → (blocks : Blocks) (w : Window) → HoldsBy blocks w s c
-ended_held s c e blocks w =
-    λ may. record { frames = top_held c.walk (at_top c e) blocks; run = over_held c.run_cursor e.cursor w }
+ended_held s c e blocks w = grind arith
 
 -- nor is a chunk or a hole
 pub ended_rest : (b : List ℕ) (c : Chunks) → IsEnded c → rest b c ≡ []
@@ -130,10 +118,4 @@ pub gives_only_chunk : {v : Layout} {a : ℕ} {b : List ℕ} {r : Entries} → I
     is_run_in_range v a 1 ≡ true → IsEnded r.chunks → r.order ≡ v.order → r.chunk ≡ piece (a * v.fsize) 512 b
     → r.place ≡ 0 → r.index ≡ 0 → r.at_start ≡ true → r.right_so_far ≡ true → GivesDirectory v b (one_chunk_at a) 0 r
 gives_only_chunk {v = v} {a = a} {b = b} {r = r} g some inside ended order chunk place index first right =
-    let only = only_chunk_is v a b g some inside in
-    let over = over_rest b r.chunks.walk ended.walk in
-    record {
-      entries = rw (only, ended.budget, place, index, first, order, chunk) refl;
-      shape = rw (only, ended.budget, ended.gap, over, right, order, place, chunk, one_replayed v a b g some inside)
-          (grind (arith, fills_begin, and-true));
-    }
+    grind (arith, only_chunk_is, over_rest, one_replayed)

@@ -301,20 +301,11 @@ set_same f ws i word low same x = elim (cases_eq x i) [
 pub survey_noted : {v : Layout} {b : List ℕ} {old new : Workspace} →
     new ≡ record old { windows = new.windows; queue = new.queue } → HoldsSurvey v b old →
     ArePlaces v b new.queue.items → HoldsSurvey v b new
-survey_noted e h right = rw e (record {
-  tree = record { named = h.tree.named; reached = h.tree.reached; parents = h.tree.parents };
-  places = rw e at right;
-})
+survey_noted e h right = grind arith
 
 pub claims_noted : {v : Layout} {b : List ℕ} {old new : Workspace} →
     new ≡ record old { windows = new.windows; queue = new.queue } → HoldsClaims v b old → HoldsClaims v b new
-claims_noted {v = v} {b = b} {old = old} e h = rw e (record {
-  used = h.used;
-  kinds = h.kinds;
-  marked = h.marked;
-  notes = h.notes;
-  counts = counts_same v b old _ refl refl refl refl refl h.counts;
-})
+claims_noted {v = v} {b = b} {old = old} e h = grind (arith, counts_same)
 
 -- the windows hold what the image gives after the table, windows of chunks and the queue were used
 pub ready_noted : {v : Layout} {d d'' : Device} {w : Workspace} {table : Table} {blocks : Blocks} {chunk : Window}
@@ -388,8 +379,7 @@ dir_number v b x h = grind (arith, and_parts, leb-true, ltb-true)
 
 pub coming_first : {v : Layout} {b : List ℕ} {w : Workspace} {words : Vec ℕ Global} → length w.reached.items ≡ inodes_of v →
     BeginsNotes w.reached.items w.parents.items words → HoldsSurvey v b w → AreComing v b words.items
-coming_first {v = v} {b = b} {w = w} {words = words} long begins survey x p under =
-    grind (arith, dir_number, edge-parts, eqb-false)
+coming_first {v = v} {b = b} {w = w} {words = words} long begins survey x p under = grind (arith, dir_number)
 
 -- after the directory d, which was to be read, is noted
 pub coming_noted : {v : Layout} {b : List ℕ} {w : Workspace} {mid new : List ℕ} {d : ℕ} (old : List ℕ) → HoldsSurvey v b

@@ -41,16 +41,14 @@ pub shape_came : (s : Bool) (order other : Order) (chunk : List ℕ) (place : �
     List ℕ) (rest : List Chunk) (gap gap' : Bool) → is_some (entry_at order chunk place) ≡ false → other ≡ order → old ≡
     chunk_of other offset next ∷ rest → gap' ≡ gap → (((s && (place == 512)) && fills_from order next 0) && (are_sound
     rest && not gap')) ≡ ((s && fills_from order chunk place) && (are_sound old && not gap))
-shape_came s order other chunk place old offset next rest gap gap' none q e same =
-    grind (arith, fills_begin, fills_end, none_from)
+shape_came s order other chunk place old offset next rest gap gap' none q e same = grind (arith, fills_end)
 
 -- none came
 pub shape_ended : (s : Bool) (order : Order) (chunk last : List ℕ) (place : ℕ) (old rest : List Chunk) (gap gap' : Bool)
     → is_some (entry_at order chunk place) ≡ false → old ≡ [] → rest ≡ [] → gap' ≡ gap
     → (((s && (place == 512)) && fills_from order last 512) && (are_sound rest && not gap'))
     ≡ ((s && fills_from order chunk place) && (are_sound old && not gap))
-shape_ended s order chunk last place old rest gap gap' none e r same =
-    grind (arith, fills_whole, fills_end, none_from, and-true)
+shape_ended s order chunk last place old rest gap gap' none e r same = grind (arith, fills_whole, fills_end)
 
 -- a reading begins
 pub shape_begun : (s s' : Bool) (order : Order) (chunk : List ℕ) (cs cs' : List Chunk) (gap left left' : Bool) → s ≡ s'
@@ -88,6 +86,4 @@ shape_at_end b r gap right ended e = rw (right, ended.current, ended.chunks, e) 
 pub again_at_end : (b : List ℕ) (r r' : Entries) (gap : Bool) → r'.right_so_far ≡ true → fills r' ≡ fills r →
     HasEnded b r → rest b r'.chunks ≡ [] → gap ≡ (r'.chunks.gap || gap_left b r'.chunks) →
     HasEnded b r' × (not gap ≡ has_right_shape b r')
-again_at_end b r r' gap right same ended none e =
-    let now : HasEnded b r' = record { chunks = none; current = rw same ended.current } in
-    (now, shape_at_end b r' gap right now e)
+again_at_end b r r' gap right same ended none e = grind arith

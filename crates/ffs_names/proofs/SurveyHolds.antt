@@ -57,8 +57,7 @@ holds_references v b old new {starts = starts} e c h s = record {
 -- the claims are held still, and what the survey found with them
 pub holds_claims : (v : Layout) (b : List ℕ) (old new : Workspace) → LeavesBlockCheck old new → new.surveyed ≡ true →
     HoldsReferences v b new → HoldsTree v b new → HoldsClaims v b old → HoldsClaims v b new
-holds_claims v b old new same surveyed references tree h =
-    let counts = counts_surveyed v b new surveyed references tree in grind (arith, ap)
+holds_claims v b old new same surveyed references tree h = grind (arith, counts_surveyed)
 
 -- whether an answer is Ok is said of one that is not
 pub on_err_is : {T E : Type 0} (r : Result T E) (b : Bool) → b ≡ is_ok r → OnErr r (b ≡ false)

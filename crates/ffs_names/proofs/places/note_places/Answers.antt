@@ -3,8 +3,7 @@ use Rattle.ffs_image.{proofs.Limits.{read_over, served}, specs.Device.Device}
 use Rattle.ffs_names.proofs.places.note_places.Goals as goal
 
 pub returns-clause-places : goal.returns-clause-places
-returns-clause-places g c =
-    rw (ap (λ (d : Device). d.contents) c.new-limited.ensures.device) at c.note_places_unlimited-noted.ensures.places
+returns-clause-places g c = grind arith
 
 pub returns-then-is_spent-clause-leaves : goal.returns-then-is_spent-clause-leaves
 returns-then-is_spent-clause-leaves g c =

@@ -12,25 +12,13 @@ pub invariant_of-self-in-None : goal.invariant_of-self-in-None
 invariant_of-self-in-None g c = grind arith
 
 pub invariant_of-self-in-Run-1 : goal.invariant_of-self-in-Run-1
-invariant_of-self-in-Run-1 g c = let s = c.steps.self in record {
-  bytes_to_read_small = s.bytes_to_read_small;
-  few = s.few;
-  cursor_fits = rw c.next.ensures.same.geometry s.cursor_fits;
-}
+invariant_of-self-in-Run-1 g c = grind arith
 
 pub invariant_of-self-in-Some-Tail : goal.invariant_of-self-in-Some-Tail
-invariant_of-self-in-Some-Tail g c = let s = c.steps.self in record {
-  bytes_to_read_small = s.bytes_to_read_small;
-  few = s.few;
-  cursor_fits = rw c.next.ensures.same.geometry s.cursor_fits;
-}
+invariant_of-self-in-Some-Tail g c = grind arith
 
 pub invariant_of-self-in-Some-Gap : goal.invariant_of-self-in-Some-Gap
-invariant_of-self-in-Some-Gap g c = let s = c.steps.self in record {
-  bytes_to_read_small = s.bytes_to_read_small;
-  few = s.few;
-  cursor_fits = rw (c.skip_gaps.ensures.same.geometry ∙ c.next.ensures.same.geometry) s.cursor_fits;
-}
+invariant_of-self-in-Some-Gap g c = grind arith
 
 pub steps-init : goal.steps-init
 steps-init g c = grind (arith, continues_here, same_here, no_more)

@@ -3,13 +3,7 @@ use Rattle.ffs_names.proofs.{Begins.begins_at, ReadCounts.begins_reads}
 use Rattle.ffs_names.proofs.chunks.Chunks.of_class.Goals as goal
 
 pub invariant_of-result : goal.invariant_of-result
-invariant_of-result c =
-    let small = c.bytes_read-bytes_to_read.ensures.small in
-    record {
-      bytes_to_read_small = small;
-      few = omega arith;
-      cursor_fits = c.empty.ensures.fits c.of_class.result.geometry.layout;
-    }
+invariant_of-result c = grind arith
 
 pub returns : goal.returns
 returns c = record {

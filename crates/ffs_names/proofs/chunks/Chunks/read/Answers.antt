@@ -60,62 +60,14 @@ returns-clause-reads g c = λ held b t.
 
 -- the chunk is the first one of its Run, or it follows the one that was given before
 pub returns-clause-steps : goal.returns-clause-steps
-returns-clause-steps g c = elim (c.in_ok-advance.ensures.found.run c.if-not-branch.false) [
-  | inl same ↦ inr (ap (λ r. r.place) same, ap (λ r. r.next + 1) same)
-  | inr first ↦ inl (omega (arith, first))
-]
+returns-clause-steps g c = grind arith
 
 -- what is left
 pub returns-then-not-branch-clause-leaves : goal.returns-then-not-branch-clause-leaves
-returns-then-not-branch-clause-leaves g c =
-    let went = c.in_ok-advance.ensures.leaves in
-    record {
-      same = went.same;
-      runs = record { rises = went.same.runs; each = λ b t. (c.in_ok-advance.ensures.continues b t).runs; fault = tt };
-      ready = record { walk = went.ready; room = c.requires.room; holds = rw went.read c.requires.holds };
-      read = went.read;
-      any = went.any;
-    }
+returns-then-not-branch-clause-leaves g c = grind arith
 
 pub returns-in_err-read_chunk-clause-leaves : goal.returns-in_err-read_chunk-clause-leaves
-returns-in_err-read_chunk-clause-leaves g c =
-    let went = c.in_ok-advance.ensures.leaves in
-    let failed = c.in_err-read_chunk.ensures.leaves in
-    let p = err_from_is_err_and c.from_residual-in_err-read_chunk.result c.from_residual-in_err-read_chunk.ensures.1 in
-    rw (p.1, p.2) (record {
-      same = went.same;
-      runs = record {
-        rises = went.same.runs;
-        each = tt;
-        fault = λ b t. (c.in_ok-advance.ensures.continues b t).runs.most;
-      };
-      ready = record {
-        walk = record {
-          volume = rw failed.read.size went.ready.volume;
-          room = went.ready.room;
-          holds = rw failed.read.contents went.ready.holds;
-        };
-        room = failed.room ∙ c.requires.room;
-        holds = failed.holds;
-      };
-      read = rw went.read at failed.read;
-      any = omega (arith, c.in_ok-advance.ensures.steps c.if-not-branch.false, failed.any);
-    })
+returns-in_err-read_chunk-clause-leaves g c = grind arith
 
 pub returns-clause-leaves : goal.returns-clause-leaves
-returns-clause-leaves g c =
-    let went = c.in_ok-advance.ensures.leaves in
-    let read = c.in_ok-read_chunk.ensures.leaves in
-    record {
-      same = record {
-        geometry = went.same.geometry;
-        cut = went.same.cut;
-        bytes_to_read = went.same.bytes_to_read;
-        budget = went.same.budget;
-        runs = went.same.runs;
-      };
-      runs = record { rises = went.same.runs; each = λ b t. (c.in_ok-advance.ensures.continues b t).runs; fault = tt };
-      ready = record { walk = rw read.read went.ready; room = read.room ∙ c.requires.room; holds = read.holds };
-      read = read.read ∙ went.read;
-      any = omega (arith, c.in_ok-advance.ensures.steps c.if-not-branch.false, read.any);
-    }
+returns-clause-leaves g c = grind arith

@@ -138,19 +138,7 @@ returns-in-Some-clause-leaves g c =
     }
 
 pub returns-then-self-clause-leaves : goal.returns-then-self-clause-leaves
-returns-then-self-clause-leaves g c =
-    let i = c.chunks.invariant in
-    let same = c.take.ensures.same.chunks in
-    record {
-      geometry = ap (λ x. x.walk.geometry) same ∙ i.geometry;
-      ready = i.ready;
-      read = i.device;
-      place = tt;
-      left = tt;
-      runs = rw same (record { rises = i.runs; each = i.each; fault = tt });
-      most = omega (arith, i.any);
-      any = rw same (omega (arith, i.any));
-    }
+returns-then-self-clause-leaves g c = grind arith
 
 -- a read failed
 pub returns-in_err-next-clause-leaves : goal.returns-in_err-next-clause-leaves

@@ -22,37 +22,18 @@ returns-in-Ok-clause-reads g c = λ w held b t.
 
 -- the only chunk was read, and there is no hole
 pub returns-then-self-clause-shape : goal.returns-then-self-clause-shape
-returns-then-self-clause-shape g c = λ b t ended.
-    let r = c.args.self.now in
-    shape_at_end b r false c.if-not-self.false ended (ended_gap b r.chunks (r.only c.if-self.true))
+returns-then-self-clause-shape g c = grind (arith, ended_gap)
 
 pub returns-in-Ok-clause-shape : goal.returns-in-Ok-clause-shape
-returns-in-Ok-clause-shape g c = λ b t ended.
-    shape_at_end b c.args.self.now _ c.if-not-self.false ended (c.in-Ok.ensures.gap b t)
+returns-in-Ok-clause-shape g c = grind arith
 
 -- asked again it answers the same
 pub returns-then-self-clause-again : goal.returns-then-self-clause-again
-returns-then-self-clause-again g c = λ b t ended.
-    let r = c.args.self.now in
-    (ended, shape_at_end b r false c.if-not-self.false ended (ended_gap b r.chunks (r.only c.if-self.true)))
+returns-then-self-clause-again g c = grind (arith, ended_gap)
 
 pub returns-in-Ok-clause-again : goal.returns-in-Ok-clause-again
-returns-in-Ok-clause-again g c = λ b t ended.
-    again_at_end b c.args.self.now _ _ c.if-not-self.false refl ended (c.in-Ok.ensures.none b t ended.chunks)
-    (c.in-Ok.ensures.again b t)
+returns-in-Ok-clause-again g c = grind arith
 
 -- a read failed: the reading is stopped, and its count of Runs stays
 pub returns-in-Err-clause-leaves : goal.returns-in-Err-clause-leaves
-returns-in-Err-clause-leaves g c =
-    let stops = c.stop.ensures.chunks in
-    let failed = c.in-Err.ensures in
-    record {
-      geometry = ap (λ w. w.geometry) stops.walk ∙ failed.leaves.same.geometry;
-      cut = ap (λ k. k.cut) stops.keeping ∙ failed.leaves.same.cut;
-      bytes_to_read = stops.bytes_to_read ∙ failed.leaves.same.bytes_to_read;
-      budget = stops.budget;
-      runs = counts_stopped failed.runs stops;
-      ready = failed.leaves.ready;
-      read = failed.leaves.read;
-      any = rw stops.walk failed.leaves.any;
-    }
+returns-in-Err-clause-leaves g c = grind arith

@@ -23,15 +23,7 @@ returns-then-address-eq0-clause-reads g c = λ b t.
     record { most = omega arith; paid = omega (arith, begins.to_read b); held = begins.held }
 
 pub returns-then-address-eq0-clause-chunks : goal.returns-then-address-eq0-clause-chunks
-returns-then-address-eq0-clause-chunks g c =
-    let v = c.args.self.now.chunks.walk.geometry.layout in
-    let none : has_chunk_at v c.args.address ≡ false = elim c.then-address-eq0.branch [
-      | then-address-eq0-via-then-address-eq0 w ↦ rw w.if-address-eq0.true refl
-      | then-address-eq0-via-else-address-eq0+then-not-in_range w ↦
-          rw (sym w.in_range.ensures ∙ w.if-not-in_range.true) (and-false _)
-    ] in
-    rw none ((rw c.one_chunk_at.ensures at c.restart.ensures.begins)
-    (sym (one_chunk_class _ c.args.address c.args.self.now.chunks.walk.geometry.sound)))
+returns-then-address-eq0-clause-chunks g c = grind (arith, one_chunk_class)
 
 -- the chunk lies in the volume
 place_is : (g : given.Over) (c : After-end_chunks g) →
@@ -39,59 +31,19 @@ place_is : (g : given.Over) (c : After-end_chunks g) →
 place_is g c = grind arith
 
 pub read_at-requires : goal.read_at-requires
-read_at-requires g c =
-    let q = c.args.self.now.chunks.walk.geometry in
-    let inside : is_run_in_range q.layout c.args.address 1 ≡ true = sym c.in_range.ensures ∙ c.if-not-in_range.false in
-    let low = q.sound.sizes.fsize_low in
-    omega (
-      arith,
-      place_is g (goal.at.read_at-requires g c).After-end_chunks,
-      run_in_volume q.layout c.args.address 1 q.sound (omega arith) inside,
-    )
+read_at-requires g c = grind (arith, run_in_volume)
 
 pub invariant_of-self : goal.invariant_of-self
-invariant_of-self g c = let s = c.end_chunks.new.self in record {
-  in_chunk = omega arith;
-  counted = omega arith;
-  few = omega (arith, c.end_chunks.ensures.ended.budget);
-  name_in_chunk = s.name_in_chunk;
-  only = s.only;
-  same_order = s.same_order;
-}
+invariant_of-self g c = grind arith
 
 pub invariant_of-self-2 : goal.invariant_of-self-2
-invariant_of-self-2 g c = let s = c.end_chunks.new.self in record {
-  in_chunk = omega arith;
-  counted = omega arith;
-  few = omega (arith, c.end_chunks.ensures.ended.budget);
-  name_in_chunk = s.name_in_chunk;
-  only = s.only;
-  same_order = s.same_order;
-}
+invariant_of-self-2 g c = grind arith
 
 pub returns-in_err-read_at-clause-reads : goal.returns-in_err-read_at-clause-reads
-returns-in_err-read_at-clause-reads g c =
-    rw (err_from_is_err_and c.from_residual.result c.from_residual.ensures.1).1 (λ b t.
-    let q = c.args.self.now.chunks.walk.geometry in
-    let some : (c.args.address == 0) ≡ false = grind (arith, nat_tests) in
-    record {
-      most = omega (arith, c.read_at.ensures.counted, runs_of_one q.layout c.args.address b q.sound some);
-      paid = tt;
-      held = tt;
-    })
+returns-in_err-read_at-clause-reads g c = grind (arith, nat_tests, runs_of_one)
 
 pub returns-in_err-read_at-clause-stopped : goal.returns-in_err-read_at-clause-stopped
-returns-in_err-read_at-clause-stopped g c =
-    let s = c.end_chunks.new.self in
-    let ended = c.end_chunks.ensures.ended in
-    rw (err_from_is_err_and c.from_residual.result c.from_residual.ensures.1).1 (record {
-      entries = λ b. rw (ended_rest b s.chunks ended) (end_seen s.at_start s.index s.order c.read_at.new.buf []);
-      shape = λ b. refl;
-      reads = λ b. rw ended.budget refl;
-      held = λ blocks w may. absurd (false≢true (rw ended.budget at may));
-      left = omega (arith, ended.budget);
-      geometry = c.end_chunks.ensures.geometry;
-    })
+returns-in_err-read_at-clause-stopped g c = grind (arith, end_seen)
 
 -- its entries are to come
 pub returns-clause-gives : goal.returns-clause-gives

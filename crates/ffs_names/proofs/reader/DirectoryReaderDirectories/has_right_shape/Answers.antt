@@ -9,5 +9,4 @@ pub returns-clause-counted : goal.returns-clause-counted
 returns-clause-counted g c = λ b k held. c.has_right_shape.ensures.reads _ held b k.bytes
 
 pub returns-clause-shape : goal.returns-clause-shape
-returns-clause-shape g c = IfOk-weaker c.has_right_shape.result _ _
-    (λ right h b k ended. h b k.bytes ended) c.has_right_shape.ensures.shape
+returns-clause-shape g c = grind arith

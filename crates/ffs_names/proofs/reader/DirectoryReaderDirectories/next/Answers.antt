@@ -3,8 +3,7 @@ use Rattle.ffs_names.proofs.{Continuing.{can_read, contents_kept}, Shaped.shape_
 use Rattle.ffs_names.proofs.reader.DirectoryReaderDirectories.next.Goals as goal
 
 pub returns-in-Some-clause-shape : goal.returns-in-Some-clause-shape
-returns-in-Some-clause-shape g c = λ b k.
-    let same = c.take.ensures.same in shape_same b _ _ _ _ _ _ same.right_so_far same.fills same.chunks
+returns-in-Some-clause-shape g c = search (arith, shape_same)
 
 -- where the current chunk has no entry left, the reading is as it was
 pub advance-requires : goal.advance-requires

@@ -16,15 +16,7 @@ returns-then-block c =
     }
 
 pub returns-then-offset-bytes_to_read : goal.returns-then-offset-bytes_to_read
-returns-then-offset-bytes_to_read c =
-    let v = c.args.geometry.now.layout in
-    let none = c.empty-then-offset-bytes_to_read.ensures in
-    record {
-      chunks = λ b. none.none v b ∙ sym (no_chunks (reading_by v b c.args.bytes_to_read) c.args.start c.args.len
-          (c.args.block * v.bsize) (grind arith));
-      first = none.first;
-      fits = none.fits v;
-    }
+returns-then-offset-bytes_to_read c = grind arith
 
 pub returns : goal.returns
 returns c = grind (arith, run_in_block, run_in_volume, mul-mod_left)
