@@ -66,8 +66,7 @@ climbed_names l way h = rw l (omega (arith, way.steps, h.few.count))
 -- nor more than so many for each of its names
 steps_below : {g : Graph} {k d at step : ℕ} {p : PathBuffer} (reads reads' n : ℕ) → level g d ≡ Some k →
     IsOnWay g k d at step p → reads' ≤ reads + step * (1 + n) → reads' ≤ reads + names_to g d * (1 + n)
-steps_below {k = k} {step = step} reads reads' n l way h =
-    rw l (omega (arith, h, mul-le-mul_right (1 + n) (below_way way.left step k way.steps)))
+steps_below {k = k} {step = step} reads reads' n l way h = grind arith
 
 -- so it leaves what it states
 pub climb_leaves : {T : Type 0} {v : Layout} {old new : WorkMoment} {x at step : ℕ} {p : PathBuffer}

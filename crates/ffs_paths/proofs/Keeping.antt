@@ -57,12 +57,7 @@ no_reads r = record { lists = refl; current = refl; ready = r; read = refl }
 
 pub names_none : {T : Type 0} {v : Layout} {x : ℕ} {now : WorkMoment} {y : T} → CanRead v now.image now.workspace →
     ReadsNames v x now now (Ok y)
-names_none r = record {
-  reads = no_reads r;
-  counted = λ b k. record { count = omega arith; blocks = refl };
-  names = λ b k. omega arith;
-  searched = λ b n k few. omega arith;
-}
+names_none r = grind arith
 
 -- a call that only reads, after another
 pub reads_then : {S T : Type 0} {v : Layout} {old mid last : Device} {before w after : Workspace} {x : S}

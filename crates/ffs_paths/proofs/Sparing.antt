@@ -37,10 +37,7 @@ spares_name {v = v} {x = x} {old = old} of names same one again = record {
 
 pub keeps_child : {w : Workspace} {x p : ℕ} {s s' : KeptParent} → IsParentOf w x p →
     (s'.parent ≡ p) × (s'.child ≡ x) → KeepsChild w x s s'
-keeps_child {p = p} of kept = record {
-  parent = λ q is. (kept.0 ∙ one_parent of is, kept.1);
-  same = λ none. absurd (none p of);
-}
+keeps_child {p = p} of kept = grind arith
 
 -- and the window holds the part of the name
 held_then : {T : Type 0} {v : Layout} {x : ℕ} (old mid new : WorkMoment) (result : Result T ImageFault) →

@@ -17,16 +17,7 @@ entries_are : (g : given.Over) (c : goal.After-find_in_chunks g) (b : List ℕ) 
     (g.I.Image.device c.args.image.now).contents ≡ Some b →
     entries_in_chunks c.args.geometry.now.layout.order (length c.bytes.result.now / 512) c.bytes.result.now
     ≡ entries_in_part c.args.geometry.now.layout b c.in-Some.part
-entries_are g c b t =
-    let v = c.args.geometry.now.layout in
-    let fills = c.in_ok-fill.ensures.fills in
-    let w = c.fill.new.self in
-    let here : c.bytes.result.now ≡ piece (part_size v * c.in-Some.part) (part_size v) b =
-    c.bytes.ensures ∙ (fills.bytes b t ∙ rw (c.from.ensures, c.part_size-size.ensures) refl) in
-    let long : length c.bytes.result.now ≡ part_size v =
-    ap length c.bytes.ensures ∙ omega (arith, length-take w.length w.buffer.items, fills.holds.fits, fills.place.1) in
-    ap (λ (n : ℕ). entries_in_chunks v.order (n / 512) c.bytes.result.now) long
-    ∙ ap (entries_in_chunks v.order (part_size v / 512)) here
+entries_are g c b t = grind (arith, length-take)
 
 -- where it is in the image
 place_is : (g : given.Over) (c : goal.After-find_in_chunks g) →
@@ -66,15 +57,4 @@ returns-clause-leaves g c =
 
 -- the read failed
 pub returns-in_err-fill-clause-leaves : goal.returns-in_err-fill-clause-leaves
-returns-in_err-fill-clause-leaves g c =
-    let read = c.in_err-fill.ensures.fills in
-    let p = err_from_is_err_and c.from_residual.result c.from_residual.ensures.1 in
-    let noted : place_in (slice_index c.args.workspace.now.queue.items c.args.dir) ≡ suc c.in-Some.part =
-    grind (arith, get_or_default) in
-    rw (p.1, p.2) (record {
-      reads = grind (arith, name_read);
-      counted = record { count = read.counted; blocks = refl };
-      again = λ held. let at = held c.in-Some.part noted in
-          read.again (at.0 ∙ rw (c.from.ensures, c.part_size-size.ensures) refl) (at.1 ∙ sym c.part_size-size.ensures);
-      held = λ b t noted. tt;
-    })
+returns-in_err-fill-clause-leaves g c = grind (arith, get_or_default)

@@ -28,8 +28,4 @@ returns-then-branch-clause-leaves g c =
 
 -- the part of the place was read, and then the parent
 pub returns-clause-counted : goal.returns-clause-counted
-returns-clause-counted g c = λ b k is.
-    let place = c.in_ok-find_by_place.ensures.leaves in
-    let search = c.search_name.ensures.counted b
-    (ap (λ d. d.contents) place.reads.read ∙ k.0, claims_held _ b _ _ place.reads.lists k.1) is in
-    omega (arith, place.counted.count, search)
+returns-clause-counted g c = grind (arith, claims_held)

@@ -26,9 +26,7 @@ begun {v = v} {b = b} {i = i} {cut = cut} p sound claims dir inode noted begins 
 runs_begun : {v : Layout} {b : List ℕ} {w : Workspace} {i : Inode} {cut : ℕ} {r : Entries} (p : ℕ) → IsAcceptedLayout v →
     HoldsClaims v b w → i ≡ inode_of v b p → cut ≡ cut_in (slice_index w.notes.items p) →
     BeginsDirectory v i cut r → reads_for_entries b r ≤ directory_runs v b p
-runs_begun {v = v} {b = b} {i = i} {cut = cut} p sound claims inode noted begins =
-    let cut_is = noted ∙ (ap cut_in (claims.notes p) ∙ cut_is_noted v b p sound) in
-    omega (arith, begins.to_read b, runs_are v b p i cut inode cut_is)
+runs_begun {v = v} {b = b} {i = i} {cut = cut} p sound claims inode noted begins = grind (arith, cut_is_noted)
 
 pub returns-then-is_naming-clause-name : goal.returns-then-is_naming-clause-name
 returns-then-is_naming-clause-name g c = λ b t claims survey is dir.
@@ -81,16 +79,10 @@ entries-preserved g c =
     }
 
 pub returns-then-is_naming-clause-reads : goal.returns-then-is_naming-clause-reads
-returns-then-is_naming-clause-reads g c =
-    let i = c.entries.invariant in
-    let next = c.in_ok-entry.ensures in
-    chunk_then i.reads (rw i.geometry at next.leaves.ready) next.leaves.read
+returns-then-is_naming-clause-reads g c = grind arith
 
 pub returns-clause-reads : goal.returns-clause-reads
-returns-clause-reads g c =
-    let i = c.entries.invariant in
-    let next = c.in_ok-entry.ensures in
-    chunk_then i.reads (rw i.geometry at next.leaves.ready) next.leaves.read
+returns-clause-reads g c = grind arith
 
 -- a read failed
 pub returns-in_err-entry-clause-reads : goal.returns-in_err-entry-clause-reads

@@ -20,8 +20,7 @@ returns-clause-costs g c = costs_as c.in_ok-keep_child.ensures.costs
 
 -- a directory without a parent
 pub returns-in_default-clause-costs : goal.returns-in_default-clause-costs
-returns-in_default-clause-costs g c = costs_none c.args.self.now (no_parent c.in_default.is c.reached_parent.ensures)
-    c.requires.kept_parent c.directory_path.ensures.leaves
+returns-in_default-clause-costs g c = search (arith, costs_none, no_parent)
 
 pub keep_child-requires : goal.keep_child-requires
 keep_child-requires g c = record {
@@ -30,5 +29,4 @@ keep_child-requires g c = record {
 }
 
 pub returns-in_default-clause-still : goal.returns-in_default-clause-still
-returns-in_default-clause-still g c =
-    kept_still _ _ c.directory_path.ensures.leaves.reads c.requires.kept_parent
+returns-in_default-clause-still g c = grind (arith, kept_still)

@@ -32,7 +32,4 @@ keep_child-requires g c = record {
 }
 
 pub returns-in_err-directory_path-clause-still : goal.returns-in_err-directory_path-clause-still
-returns-in_err-directory_path-clause-still g c =
-    let p = err_from_is_err_and c.from_residual.result c.from_residual.ensures.1 in
-    let read = c.in_err-directory_path.ensures.leaves.reads in
-    rw p.1 (kept_parent_held _ _ _ _ _ _ read.read.contents read.lists c.requires.kept_parent)
+returns-in_err-directory_path-clause-still g c = grind (arith, kept_parent_held)
