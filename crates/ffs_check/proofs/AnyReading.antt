@@ -1,5 +1,5 @@
 -- How often a check reads any image, from the phases to the whole.
-use Rattle.std.proofs.Common.{◌≡◌, ◌≤◌, ◌+◌, ◌*◌, ◌∙◌, ℕ, Bool, false, inl, inr, refl, sym, ap, arith, List, [], ◌∷◌, ◌++◌}
+use Rattle.std.proofs.Common.{◌≡◌, ◌≤◌, ◌+◌, ◌*◌, ◌∙◌, ℕ, Bool, false, inl, inr, sym, ap, arith, List, [], ◌∷◌, ◌++◌}
 use Rattle.std.proofs.{Common.{append-nil, append_assoc, length, length-append, Ok, Err, subst, Result}, Math.Nat.mul-le-mul_left}
 use Rattle.ffs_image.specs.Device.{Device}
 use Rattle.ffs_volume.specs.{declared.{Layout.Layout, End.End}, Messages.{Kinds.{Message, cannot_alloc, cannot_read}}}

@@ -1,7 +1,6 @@
 -- How often a check reads its image.
 use Rattle.std.proofs.Common.{◌≡◌, ◌≤◌, ◌+◌, ℕ, List, length, ap, ◌∙◌, sym, refl, subst, arith, Option, Result, Ok, Err}
 use Rattle.std.proofs.lemmas.List.{length-append}
-use Rattle.ffs_image.specs.Device.{Device}
 use Rattle.ffs_volume.specs.{declared.{Layout.Layout, SuperFault.SuperFault}, Disk.Outcome.outcome}
 use Rattle.ffs_volume.specs.{Disk.Superblock.Superblock, Report.{Reads.{opening_reads, phase_reads}, Whole.phase_lines}}
 use Rattle.ffs_volume.specs.Report.{Opening.opening_lines, Whole.report_of}

@@ -1,39 +1,36 @@
 -- One phase after another: for each phase a lemma on the stage that it leaves, and one on a fault in it.
 use Rattle.std.proofs.Common.{◌≡◌, ◌<◌, ◌≤◌, ◌+◌, ◌*◌, ◌∙◌, sym, ap, ℕ, List, [], ◌∷◌, ◌++◌, length, append_assoc}
-use Rattle.std.proofs.Common.{append-nil, arith, refl, Bool, true, false, not, Ok, Err, inl, inr, if◌then◌else◌, map}
-use Rattle.std.proofs.{Common.{subst, OnErr, OnOk, None, Result}, lemmas.List.length-append}
+use Rattle.std.proofs.Common.{append-nil, arith, refl, Bool, true, false, not, Ok, Err, inl, inr, map}
+use Rattle.std.proofs.{Common.{subst, OnErr, OnOk, None, Result}}
 use Rattle.ffs_image.specs.Device.{Device}
-use Rattle.ffs_volume.specs.{Disk.Superblock.Superblock, Blocks.Inodes.is_directory, Directories.Volumes.volume_of}
-use Rattle.ffs_volume.specs.{Directories.Roles.Volume, Messages.Kinds.{stops_check, Message, TreeMessage, lines_below}}
+use Rattle.ffs_volume.specs.{Disk.Superblock.Superblock, Directories.Volumes.volume_of}
+use Rattle.ffs_volume.specs.{Messages.Kinds.{Message}}
 use Rattle.ffs_volume.specs.{Messages.Kinds.{of_tree, phase2, phase3, phase4, phase5}, Report.Memory.runs_limit}
 use Rattle.ffs_volume.specs.Directories.{Connectivity.connectivity_lines, ReferenceCheck.reference_lines}
-use Rattle.ffs_volume.specs.Directories.PathnameCheck.{continues_after_root, directory_lines, pathname_lines}
-use Rattle.ffs_volume.specs.{Directories.PathnameCheck.{root_lines, root_lines_of}, declared.Class.Class}
-use Rattle.ffs_volume.specs.Report.{Reads.{group_reads, line_reads, phase_reads, sweep_reads}, Whole.phase_lines}
-use Rattle.ffs_volume.specs.{Report.Whole.{summary_of, file_count, claimed_count}, declared.Layout.Layout}
-use Rattle.ffs_volume.specs.{Laws.Geometry.IsAcceptedLayout, Report.VolumeReads.{later_reads, volume_pathname_reads}}
-use Rattle.ffs_volume.specs.Report.VolumeReads.{rescan_reads, volume_phase_reads}
-use Rattle.ffs_report.specs.{Progress.{Progress, Said}, Known.{ForBytes, IsContents}, Paid.Paid}
-use Rattle.ffs_report.specs.{PhaseOutcome.{ImageAfter, PhaseReports, SaidOf}, declared.fault.RunFault.RunFault}
+use Rattle.ffs_volume.specs.Directories.PathnameCheck.{continues_after_root, pathname_lines}
+use Rattle.ffs_volume.specs.Report.{Reads.{group_reads, line_reads, sweep_reads}, Whole.phase_lines}
+use Rattle.ffs_volume.specs.{Report.Whole.{summary_of, file_count, claimed_count}}
+use Rattle.ffs_volume.specs.{Laws.Geometry.IsAcceptedLayout, Report.VolumeReads.{later_reads}}
+use Rattle.ffs_report.specs.{Progress.{Progress}, Known.{ForBytes}, Paid.Paid}
+use Rattle.ffs_report.specs.{PhaseOutcome.{ImageAfter}, declared.fault.RunFault.RunFault}
 use Rattle.ffs_report.{specs.declared.fault.RunFault.TheVariants.{Read, Out}, proofs.Reporting.{of_begins, of_says}}
 use Rattle.ffs_report.proofs.{Reporting.{of_part, of_fault, said_knows, reports_knowing}, Paying.paid_answer}
-use Rattle.ffs_report.proofs.Paying.{paid_beside, paid_fault, paid_none, paid_price, paid_text, paid_then, paid_within}
-use Rattle.ffs_report.proofs.Reports.{said_then}
+use Rattle.ffs_report.proofs.Paying.{paid_fault, paid_none, paid_then, paid_within}
 use Rattle.ffs_volume.proofs.Results.{on_any}
-use Rattle.ffs_check.specs.{Moment.ReportMoment, PhaseEnds.{HaveRun, LeavesAnswers, PhasesLeave, SaidWhole}}
+use Rattle.ffs_check.specs.{PhaseEnds.{HaveRun, LeavesAnswers, SaidWhole}}
 use Rattle.ffs_volume.specs.Report.Whole.{phase1_messages, rescan_lines, phase2_messages, phase3_messages, phase4_messages, phase5_messages}
 use Rattle.ffs_volume.specs.Report.Whole.{summary_messages}
-use Rattle.ffs_check.proofs.RestOfText.{from_phase1b, from_phase2, after_phase2, from_phase4, from_phase5}
+use Rattle.ffs_check.proofs.RestOfText.{from_phase2, after_phase2}
 use Rattle.ffs_check.specs.Phases.{AnswersDups, RescanLeaves, RescanReadsWithin, WithLeftByPhase1}
-use Rattle.ffs_check.{proofs.Answering.{answers_stay, unanswered}, specs.Reads.{PhasesPay, PhasesReadWithin}}
-use Rattle.ffs_check.proofs.VolumeReading.{text_parts, volume_few}
+use Rattle.ffs_check.{proofs.Answering.{answers_stay, unanswered}, specs.Reads.{PhasesPay}}
+use Rattle.ffs_check.proofs.VolumeReading.{text_parts}
 use Rattle.ffs_counts.specs.Summary.{SaysSummary}
 use Rattle.ffs_claims.specs.Phases.{IsLeftByPhase1, Phase1Keeps, Phase1Reads}
 use Rattle.ffs_pathnames.specs.{declared.pass2.Root.{Root, TheVariants.{Go, Stop}}, Phase2.{Phase2Ends, Phase2Reads}, RootAnswers.is_go}
 use Rattle.ffs_workspace.specs.{declared.workspace.Workspace.Workspace, Leaves.{LeavesBlockCheck, LeavesSurvey}}
 use Rattle.ffs_workspace.specs.{Ready.IsReady, Found.{WithFresh, WithClaims, WithSurvey, WithFindings}}
-use Rattle.ffs_workspace.specs.Holds.{HoldsClaims, HoldsFindings, IsFresh}
-use Rattle.ffs_workspace.proofs.Leaving.{claims_held, claims_left, references_left, survey_left, windows_leave}
+use Rattle.ffs_workspace.specs.Holds.{HoldsClaims, HoldsFindings}
+use Rattle.ffs_workspace.proofs.Leaving.{claims_held, claims_left, references_left, survey_left}
 use Rattle.ffs_check.proofs.Stages.{some_more, more_after, root_or_more, Left, each, Point, Given, Stage, report_at}
 use Rattle.ffs_check.proofs.Stages.{RunsPhases, Spends, Ran, begun, phase1_done, phase1b_done, Rooted, phase2_done}
 use Rattle.ffs_check.proofs.Stages.{phase3_done, phase4_done, phase5_done, root_stays, windows_stay, at_err}

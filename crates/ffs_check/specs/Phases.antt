@@ -1,13 +1,11 @@
 -- What is known of the image's bytes after phase 1, what phase 1b does, and what a workspace answers then.
-use Rattle.std.specs.Prelude.{ℕ, ◌≡◌, ◌⊎◌, ◌≤◌, ◌+◌, Bool, false, if◌then◌else◌, List, [], ◌∷◌, ◌++◌, map, Result, OnOk}
+use Rattle.std.specs.Prelude.{ℕ, ◌≡◌, ◌⊎◌, ◌≤◌, ◌+◌, false, if◌then◌else◌, List, Result, OnOk}
 use Rattle.ffs_image.specs.Device.{Device}
 use Rattle.ffs_report.specs.{Known.{ForBytes, IsContents}, declared.fault.RunFault.RunFault}
-use Rattle.ffs_volume.specs.{declared.Layout.Layout, Disk.Superblock.Superblock, Blocks.Owners.owners_of}
-use Rattle.ffs_volume.specs.Directories.{Volumes.volume_of}
-use Rattle.ffs_volume.specs.{Messages.Kinds.Message, Blocks.BlockCheck.{has_rescan, rescan_runs}}
-use Rattle.ffs_volume.specs.{Directories.PathnameCheck.continues_after_root, Report.Reads.sweep_reads}
-use Rattle.ffs_volume.specs.Report.Whole.{phase1_messages, rescan_lines, phase2_messages, phase3_messages, phase4_messages, phase5_messages}
-use Rattle.ffs_volume.specs.Report.{Whole.{run_count, summary_messages}, VolumeReads.rescan_reads}
+use Rattle.ffs_volume.specs.{declared.Layout.Layout, Blocks.Owners.owners_of}
+use Rattle.ffs_volume.specs.{Blocks.BlockCheck.{has_rescan, rescan_runs}}
+use Rattle.ffs_volume.specs.{Report.Reads.sweep_reads}
+use Rattle.ffs_volume.specs.Report.{Whole.{run_count}, VolumeReads.rescan_reads}
 use Rattle.ffs_workspace.specs.{declared.workspace.Workspace.Workspace, Holds.HoldsClaims, Ready.IsReady}
 use Rattle.ffs_claims.specs.Phases.{IsLeftByPhase1}
 

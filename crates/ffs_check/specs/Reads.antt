@@ -1,7 +1,7 @@
 -- How often a check reads its image at most: one that gives its bytes, and any image, also one that gives
 -- other bytes each time, by the messages that went out, whole or in part.
 use Rattle.std.specs.Prelude.{◌≡◌, ◌⊎◌, ◌≤◌, ◌+◌, ◌++◌, ℕ, List, length, Option, Result, Ok, Err}
-use Rattle.ffs_image.specs.Device.{Device, ForContents}
+use Rattle.ffs_image.specs.Device.{ForContents}
 use Rattle.ffs_volume.specs.{declared.SuperFault.SuperFault, Disk.{Outcome.outcome, Superblock.Superblock}}
 use Rattle.ffs_volume.specs.{Messages.{Kinds.Message, Texts.texts_of}, Report.VolumeReads.volume_phase_reads}
 use Rattle.ffs_volume.specs.Report.{Reads.{line_reads, opening_reads, phase_reads, reads_limit}, Whole.phase_lines}

@@ -3,7 +3,7 @@ use Rattle.std.proofs.Common.{◌≡◌, ◌≢◌, ℕ, zero, suc, ◌+◌, ◌
 use Rattle.std.proofs.Common.{◌⊎◌, List, [], ◌∷◌, length, Option, Some, None, refl, sym, ap, ◌∙◌, arith, inl, inr}
 use Rattle.std.proofs.Common.{flat_map, if◌then◌else◌, is_some, slice_index, slice_set, unwrap_or, vec_len}
 use Rattle.std.{specs.List.list_any, proofs.{Math.Bool.and-false, lemmas.Bool.{Decides.nat_tests, and_from, and_parts}}}
-use Rattle.std.proofs.lemmas.Bool.{both_ways, cases_eq, cond-false, eq-eqb, eqb-false, eqb-true, leb-true, ltb-true}
+use Rattle.std.proofs.lemmas.Bool.{both_ways, cases_eq, cond-false, eq-eqb, eqb-true, leb-true, ltb-true}
 use Rattle.std.proofs.lemmas.{Bool.{ne_eqb, not_from_false, not-true}, List.{Folds.list_any-append, get_or_past}}
 use Rattle.std.{proofs.lemmas.List.{get_or-set_other, get_or-set_same}, specs.declared.vec.Vec.Vec}
 use Rattle.std.specs.declared.alloc.Global.{Global}

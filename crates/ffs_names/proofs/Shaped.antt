@@ -11,7 +11,7 @@ use Rattle.ffs_walk.specs.declared.{blocks.Blocks.Blocks, window.Window.Window}
 use Rattle.ffs_names.specs.{Costs.{HoldsReading, to_read}, Readings.{chunks_in, gap_left, rest, runs_left}}
 use Rattle.ffs_names.specs.Shapes.{BeginsDirectory, HasEnded, fills, has_right_shape}
 use Rattle.ffs_names.{specs.declared.{chunks.Chunks.Chunks, entries.Entries.Entries}, proofs.Entered.end_of_chunk}
-use Rattle.ffs_names.proofs.{Entered.{end_seen, none_from}, EntryCounts.at_most}
+use Rattle.ffs_names.proofs.{Entered.{end_seen}, EntryCounts.at_most}
 
 abbrev pub fills_from : Order → List ℕ → ℕ → Bool
 fills_from order chunk place = place + sum_by (λ e. e.length) (entries_from order chunk 64 place) == 512

@@ -1,5 +1,5 @@
-use Rattle.std.proofs.{Common.{arith, rules, ◌∙◌, sym, ap}, lemmas.Grind.common_steps}
-use Rattle.ffs_image.{proofs.Limits.{read_over, served}, specs.Device.Device}
+use Rattle.std.proofs.{Common.{arith, rules, ◌∙◌, sym}, lemmas.Grind.common_steps}
+use Rattle.ffs_image.{proofs.Limits.{read_over, served}}
 use Rattle.ffs_names.proofs.places.note_places.Goals as goal
 
 pub returns-clause-places : goal.returns-clause-places

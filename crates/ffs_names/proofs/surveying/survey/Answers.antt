@@ -1,8 +1,7 @@
 use Rattle.std.proofs.Common.{arith}
-use Rattle.std.proofs.Common.{◌≡◌, ◌∙◌, ℕ, zero, suc, false, refl, replicate, rules, ap, slice_index}
-use Rattle.ffs_workspace.proofs.{Leaving.{claims_held, counts_same, counts_stand}, PlaceLaws.{filled_noted, zero_index}, Readiness.{can_read_same, ready_same}}
-use Rattle.ffs_survey.{proofs.CalmLaws.calm_none, specs.Survey.bool_at}
-use Rattle.ffs_names.proofs.SurveyHolds.{on_ok_each}
+use Rattle.std.proofs.Common.{◌≡◌, ℕ, zero, suc, false, refl, replicate}
+use Rattle.ffs_workspace.proofs.{Leaving.{claims_held, counts_same, counts_stand}, PlaceLaws.{filled_noted, zero_index}, Readiness.{can_read_same}}
+use Rattle.ffs_survey.{specs.Survey.bool_at}
 use Rattle.ffs_names.proofs.surveying.survey.Goals as goal
 
 none_set : (n x : ℕ) → bool_at (replicate n false) x ≡ false

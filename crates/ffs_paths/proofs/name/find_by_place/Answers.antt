@@ -1,7 +1,6 @@
 use Rattle.std.proofs.Common.{◌≡◌, ◌*◌, ◌/◌, ◌∙◌, ap, length, refl, sym, suc, ℕ, List, Some, arith, slice_index}
 use Rattle.std.{proofs.{Common.length-take, lemmas.List.get_or_default}, specs.List.list_any}
-use Rattle.std.proofs.lemmas.Result.{err_from_is_err_and}
-use Rattle.ffs_volume.specs.{Disk.Numbers.piece, Directories.Graph.is_naming_entry}
+use Rattle.ffs_volume.specs.{Directories.Graph.is_naming_entry}
 use Rattle.ffs_paths.{specs.Climbing.name_in, proofs.Keeping.name_read}
 use Rattle.ffs_volume.specs.Encodings.Places.{entries_in_chunks, entries_in_part, part_size, place_in}
 use Rattle.ffs_paths.proofs.name.find_by_place.Given as given

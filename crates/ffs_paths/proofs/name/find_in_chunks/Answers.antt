@@ -1,5 +1,5 @@
-use Rattle.std.proofs.{Common.{◌/◌, ◌<◌, ◌∙◌, arith, length, refl, sym}, lemmas.Bool.false≢true}
-use Rattle.ffs_paths.proofs.ChunkNames.{after_chunks, in_chunk, past_chunk}
+use Rattle.std.proofs.{Common.{arith}}
+use Rattle.ffs_paths.proofs.ChunkNames.{in_chunk, past_chunk}
 use Rattle.ffs_paths.proofs.name.find_in_chunks.Goals as goal
 
 pub loop-chunk-preserved : goal.loop-chunk-preserved

@@ -1,4 +1,4 @@
-use Rattle.std.proofs.{Common.{ap, arith, ◌∙◌}, lemmas.{Bool.both_ways, Result.on_ok_weaker}}
+use Rattle.std.proofs.{Common.{arith}, lemmas.{Bool.both_ways, Result.on_ok_weaker}}
 use Rattle.ffs_workspace.proofs.Leaving.{claims_held}
 use Rattle.ffs_paths.{specs.{Climbing.IsNameIn, NameTexts.name_bytes}, proofs.Keeping.{reads_as, reads_then, tree_on}}
 use Rattle.ffs_paths.proofs.name.find_name.Goals as goal

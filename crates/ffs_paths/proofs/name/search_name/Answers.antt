@@ -1,6 +1,6 @@
 use Rattle.std.proofs.Common.{arith, ◌≡◌, ◌<◌, ◌≤◌, ◌∙◌, ℕ, true, List, ap, refl, sym, subst, slice_index}
 use Rattle.std.proofs.lemmas.Result.{err_from_is_err_and}
-use Rattle.ffs_names.{proofs.{DirCosts.{cost_is, runs_are}, DirLaws.{dir_is, dir_size, dir_seen}}, specs.Entering.to_come}
+use Rattle.ffs_names.{proofs.{DirCosts.{cost_is}, DirLaws.{dir_is, dir_size, dir_seen}}, specs.Entering.to_come}
 use Rattle.ffs_names.specs.{Entering.last_name, Costs.reads_for_entries, Shapes.BeginsDirectory}
 use Rattle.ffs_names.specs.declared.entries.Entries.{Entries}
 use Rattle.ffs_volume.specs.{Report.DirectoryReads.directory_runs, declared.{Inode.Inode, Layout.Layout}}

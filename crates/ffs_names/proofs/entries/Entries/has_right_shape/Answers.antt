@@ -1,6 +1,5 @@
-use Rattle.std.proofs.Common.{◌∙◌, ap, false, arith, refl}
-use Rattle.ffs_names.proofs.{Continuing.counts_stopped, EntryCounts.looks_on, OneChunks.ended_gap}
-use Rattle.ffs_names.proofs.Shaped.{again_at_end, shape_at_end}
+use Rattle.std.proofs.Common.{arith}
+use Rattle.ffs_names.proofs.{EntryCounts.looks_on, OneChunks.ended_gap}
 use Rattle.ffs_names.proofs.entries.Entries.has_right_shape.Goals as goal
 
 -- a look for holes continues the reads

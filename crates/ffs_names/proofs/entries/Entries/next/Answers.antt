@@ -1,6 +1,4 @@
 use Rattle.std.proofs.Common.{arith}
-use Rattle.std.proofs.Common.{ap, ◌∙◌}
-use Rattle.ffs_names.proofs.Continuing.{counts_stopped}
 use Rattle.ffs_names.proofs.entries.Entries.next.Goals as goal
 
 pub returns-in-Err-clause-reads : goal.returns-in-Err-clause-reads

@@ -1,5 +1,4 @@
 use Rattle.std.proofs.Common.{arith}
-use Rattle.std.proofs.Common.{◌∙◌}
 use Rattle.ffs_names.proofs.entries.Entries.none.Goals as goal
 
 pub returns : goal.returns

@@ -1,11 +1,9 @@
-use Rattle.std.proofs.Common.{◌≡◌, ◌==◌, ◌∙◌, ◌*◌, false, true, length, [], refl, sym, ap, arith}
-use Rattle.std.proofs.lemmas.{Bool.{Decides.nat_tests, false≢true}, Result.err_from_is_err_and}
-use Rattle.ffs_volume.specs.Disk.Areas.{is_run_in_range}
-use Rattle.ffs_names.proofs.{OneChunks.{ended_held, ended_reads, ended_rest, gives_only_chunk, one_chunk_class, runs_of_one}}
+use Rattle.std.proofs.Common.{◌≡◌, ◌==◌, ◌∙◌, ◌*◌, false, true, length, refl, sym, ap, arith}
+use Rattle.std.proofs.lemmas.{Bool.{Decides.nat_tests}}
+use Rattle.ffs_names.proofs.{OneChunks.{ended_held, ended_reads, gives_only_chunk, one_chunk_class, runs_of_one}}
 use Rattle.ffs_names.proofs.{Entered.end_seen, RunChunks.run_in_volume}
 use Rattle.ffs_names.proofs.entries.Entries.restart_at.Goals.{After-end_chunks, then-address-eq0-via-then-address-eq0}
 use Rattle.ffs_names.proofs.entries.Entries.restart_at.Goals.{then-address-eq0-via-else-address-eq0+then-not-in_range}
-use Rattle.{std.proofs.Math.Bool.and-false, ffs_names.specs.OneChunk.has_chunk_at}
 use Rattle.ffs_names.proofs.entries.Entries.restart_at.Given as given
 use Rattle.ffs_names.proofs.entries.Entries.restart_at.Goals as goal
 

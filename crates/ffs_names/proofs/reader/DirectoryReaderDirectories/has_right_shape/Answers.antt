@@ -1,4 +1,4 @@
-use Rattle.std.proofs.{Common.arith, lemmas.Result.IfOk-weaker}
+use Rattle.std.proofs.{Common.arith}
 use Rattle.ffs_names.proofs.Continuing.{contents_kept}
 use Rattle.ffs_names.proofs.reader.DirectoryReaderDirectories.has_right_shape.Goals as goal
 

@@ -1,5 +1,5 @@
-use Rattle.std.proofs.{Common.{◌∙◌, ◌*◌, arith, sym}, Math.Nat.mul-mod_left}
-use Rattle.ffs_names.{specs.RunCursors.reading_by, proofs.RunChunks.{no_chunks, none_far, run_in_volume, run_in_block}}
+use Rattle.std.proofs.{Common.{◌∙◌, arith, sym}, Math.Nat.mul-mod_left}
+use Rattle.ffs_names.{specs.RunCursors.reading_by, proofs.RunChunks.{none_far, run_in_volume, run_in_block}}
 use Rattle.ffs_names.proofs.run_cursor.RunCursor.of_run.Goals as goal
 
 -- a Run that begins after what is read has no chunks

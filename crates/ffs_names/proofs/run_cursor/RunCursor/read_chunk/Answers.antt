@@ -1,4 +1,4 @@
-use Rattle.std.proofs.Common.{◌≡◌, ◌+◌, ◌-◌, ◌*◌, arith}
+use Rattle.std.proofs.Common.{arith}
 use Rattle.ffs_workspace.proofs.TablePlaces.{piece_of}
 use Rattle.ffs_names.proofs.run_cursor.RunCursor.read_chunk.Goals as goal
 
