@@ -41,7 +41,8 @@ fn print_refusal<W: Output>(out: &mut W, refusal: &Refusal) -> Result<(), OutFau
 /// Writes a refusal: what is wrong with the words, or the help or the version that they ask for. A
 /// writer that fails changes nothing else.
 pub fn write_refusal<E: Outlet>(errors: &mut E, refusal: &Refusal)
-    ensures { IsWritten E.contents E.was_written errors.old errors.new (text_of_refusal refusal.now) }
+    ensures { IsWritten E.contents E.was_written errors.old errors.new
+        (text_of_refusal refusal.now) }
 {
     let _ = print_refusal(&mut Counted::new(errors), refusal);
 }

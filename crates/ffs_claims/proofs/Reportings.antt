@@ -68,10 +68,7 @@ reporting_more {part = part} {rest' = rest'} t e p = record {
   reported = reported_then t.past part t.reported p;
 }
 
--- some offers were gone over: all of them, none yet, those so far, and those so far with some of the next ones
-pub part_all : {offers : List Offer} {u w : Workspace} → OffersReported offers u w → ReportedInPart offers u w
-part_all {offers = offers} p = record { past = offers; rest = []; whole = append-nil offers; reported = p }
-
+-- some offers were gone over: those so far, none yet, and those so far with some of the next ones
 pub part_now : {rest all : List Offer} {u w w' : Workspace} → Reporting rest all u w → w'.duplicates ≡ w.duplicates →
     w'.marked ≡ w.marked → ReportedInPart all u w'
 part_now {rest = rest} t d m =

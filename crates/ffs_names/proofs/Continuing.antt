@@ -16,11 +16,6 @@ counts_here n = record { most = omega arith; all = λ h. refl }
 pub counts_more : {n m k : ℕ} → CountsOn n m → CountsOn m k → CountsOn n k
 counts_more h l = grind arith
 
--- a reading that is stopped has the count of Runs that it had
-pub counts_stopped : {T : Type 0} {contents : Option (List ℕ)} {c c' c'' : Chunks} {result : Result T ImageFault} →
-    CountsRuns contents c c' result → StopsChunks c' c'' → CountsRuns contents c c'' result
-counts_stopped h s = grind arith
-
 pub continues_here : (b : List ℕ) (c : Chunks) → ContinuesTo b c c
 continues_here b c = record { chunks = refl; runs = counts_here _; gap = refl }
 

@@ -33,9 +33,6 @@ fills_end order chunk place none = grind (arith, entries_end)
 pub fills_whole : (order : Order) (chunk : List ℕ) → fills_from order chunk 512 ≡ true
 fills_whole order chunk = fills_end order chunk 512 (end_of_chunk order chunk)
 
-pub fills_begin : (order : Order) (chunk : List ℕ) → fills_from order chunk 0 ≡ is_sound order chunk
-fills_begin order chunk = rw zero-add refl
-
 -- a chunk came after one was read to its end
 pub shape_came : (s : Bool) (order other : Order) (chunk : List ℕ) (place : ℕ) (old : List Chunk) (offset : ℕ) (next :
     List ℕ) (rest : List Chunk) (gap gap' : Bool) → is_some (entry_at order chunk place) ≡ false → other ≡ order → old ≡
@@ -76,14 +73,3 @@ begins_directory {r = r} place right chunks gap left few held none runs = record
 pub shape_same : (b : List ℕ) (s s' f f' : Bool) (c c' : Chunks) → s' ≡ s → f' ≡ f → c' ≡ c → ((s' && f') && (are_sound
     (rest b c') && not (c'.gap || gap_left b c'))) ≡ ((s && f) && (are_sound (rest b c) && not (c.gap || gap_left b c)))
 shape_same b s s' f f' c c' e h q = rw (e, h, q) refl
-
--- no entry is left: whether a hole was seen, or is still to be, says whether the shape is right
-pub shape_at_end : (b : List ℕ) (r : Entries) (gap : Bool) → r.right_so_far ≡ true → HasEnded b r →
-    gap ≡ (r.chunks.gap || gap_left b r.chunks) → not gap ≡ has_right_shape b r
-shape_at_end b r gap right ended e = rw (right, ended.current, ended.chunks, e) refl
-
--- asked again, what has ended before is ended still, and has the same shape
-pub again_at_end : (b : List ℕ) (r r' : Entries) (gap : Bool) → r'.right_so_far ≡ true → fills r' ≡ fills r →
-    HasEnded b r → rest b r'.chunks ≡ [] → gap ≡ (r'.chunks.gap || gap_left b r'.chunks) →
-    HasEnded b r' × (not gap ≡ has_right_shape b r')
-again_at_end b r r' gap right same ended none e = grind arith

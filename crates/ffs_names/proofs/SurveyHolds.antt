@@ -69,12 +69,6 @@ pub on_ok_is : {T E : Type 0} (r : Result T E) (P Q : Type 0) → (is_ok r ≡ t
 on_ok_is (Ok x) P Q f h = f refl h
 on_ok_is (Err e) P Q f h = h
 
--- a fact of an Ok answer, by each list of bytes that is known
-pub on_ok_each : {T E : Type 0} {knows : List ℕ → Type 0} (P : List ℕ → Type 0) (r : Result T E) →
-    ForBytes knows (λ b. OnOk r (P b)) → OnOk r (ForBytes knows P)
-on_ok_each P (Ok x) f = f
-on_ok_each P (Err e) f = tt
-
 -- flags of a survey of a volume
 pub volume_calm : (t : Base) (b kinds : List ℕ) (marked marks : List Bool) (parents : List ℕ) (flags : List Bool) →
     AreCalm kinds marked marks parents (dir_entries t b) (dir_right_shape t b) flags → AreCalm kinds marked marks

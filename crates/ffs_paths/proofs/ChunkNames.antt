@@ -109,8 +109,3 @@ in_chunk x order n bytes parts i d text found finds on are below =
     let there = named_if x here _ refl (omega (arith, ap length (finds.name on), finds.some on)) in
     finds.name on ∙ sym (ap (name_in x) (chunk_first order n bytes parts i d are below)
     ∙ name_in-among x here (entries_after order n bytes (i + 1)) there)
-
--- no chunk is left
-pub after_chunks : (x : ℕ) (order : Order) (n : ℕ) (bytes : List ℕ) (i : ℕ) → n ≤ i →
-    list_any (is_naming_entry x) (entries_after order n bytes i) ≡ false
-after_chunks x order n bytes i over = let none : n - i ≡ 0 = omega arith in rw none refl

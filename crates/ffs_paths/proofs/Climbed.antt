@@ -55,9 +55,6 @@ pub noted_child : {v : Layout} {contents : Option (List ℕ)} {b : List ℕ} {w 
 noted_child {v = v} {b = b} {d = d} knows of lists = grind (arith, reached-level, noted_here)
 
 -- ---- a read for each name
-below_way : (left step k : ℕ) → left + step ≡ k → step ≤ k
-below_way left step k e = omega (arith, e)
-
 -- a climb has made no more reads than the directory that it began at has names
 climbed_names : {g : Graph} {k d at step reads reads' : ℕ} {w w' : Workspace} {p : PathBuffer} → level g d ≡ Some k →
     IsOnWay g k d at step p → HasClimbed step reads reads' w w' p → reads' ≤ reads + names_to g d

@@ -50,11 +50,6 @@ pub reads_as : {S T : Type 0} {v : Layout} {d d' : Device} {w w' : Workspace} {x
     OnlyReads v d d' w w' (Ok x) → OnlyReads v d d' w w' (Ok y)
 reads_as r = record { lists = r.lists; current = r.current; ready = r.ready; read = r.read }
 
--- nothing was read yet
-pub no_reads : {T : Type 0} {v : Layout} {d : Device} {w : Workspace} {x : T} → CanRead v d w →
-    OnlyReads v d d w w (Ok x)
-no_reads r = record { lists = refl; current = refl; ready = r; read = refl }
-
 pub names_none : {T : Type 0} {v : Layout} {x : ℕ} {now : WorkMoment} {y : T} → CanRead v now.image now.workspace →
     ReadsNames v x now now (Ok y)
 names_none r = grind arith

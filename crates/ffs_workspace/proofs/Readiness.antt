@@ -15,7 +15,3 @@ can_read_table v d d' w t e size kept r = grind arith
 pub can_read_same : (v : Layout) (d d' : Device) (w : Workspace) → d'.contents ≡ d.contents → d'.size ≡ d.size →
     CanRead v d w → CanRead v d' w
 can_read_same v d d' w e size r = grind arith
-
--- for another image of the same size
-pub ready_same : (v : Layout) (d d' : Device) (w : Workspace) → d'.size ≡ d.size → IsReady v d w → IsReady v d' w
-ready_same v d d' w size r = grind arith
