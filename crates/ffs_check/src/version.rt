@@ -2,4 +2,4 @@
 
 /// The version, and the first digits of the digest of the sources that the program was built from.
 /// `tools/renew_dist` writes this line.
-pub const VERSION: &str = "1.24.0 (sources 5c8fd49e066f)";
+pub const VERSION: &str = "1.25.0 (sources b203f6779755)";
