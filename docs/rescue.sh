@@ -18,8 +18,15 @@
 #   last_copy                the sector of the superblock's copy in the last group, by its superblock
 #   groups                   of each group the fragment at which its block begins, and the bytes of its inode map, by its superblock
 #   all_used                 makes every.img, a copy in which all maps of inodes say that all are in use, and those of fragments begin after them
+#   list_names [-m] IMAGE [I]
+#                            all names (below directory I) as fls of Sleuthkit prints them; with -m with all attributes, where some come twice
 #   recover IMAGE PLACE [I]  copies what has a name (below directory I) into a directory by tsk_recover of Sleuthkit. That would write elsewhere
-#                            where a name is or has in it `..`, beside slashes: then nothing is copied
+#                            where a name is or has in it `..`, beside slashes: then nothing is copied. What has no place of its own there, or
+#                            has too long a path, becomes PLACE.I, by its inode I
+#   unnamed                  copies what no entry names, by the report, from the image `from` into a directory unnamed.d
+#   bad_areas START          what ffs_find owner prints of each fragment in the bad areas of copy.map, where the volume begins at sector START
+#                            list_names, recover and unnamed name the inodes that can't be read to their end, as where a size is more than the
+#                            addresses hold, and read what they can. They make a copy for that, bounded.img, and remove it
 #   put BYTE WIDTH NUMBER    writes a number of so many bytes into further.img, in the byte order of the image
 #   entries FIRST LENGTH [I] what looks like an entry in these bytes, of inode I alone where it is given, also where no directory
 #                            has it: byte, number, record length, type, length of the name, name (control bytes are shown as ?)
@@ -79,10 +86,13 @@ by_superblock() {
     perl -e '$name = $ARGV[0]; open F, "<", $name or die "$name: $!\n"; seek F, 8192, 0; read F, $super, 1376;
         $magic = substr $super, 1372; $magic =~ /^(\0\x01\x19\x54|\x54\x19\x01\0)$/s or die "no superblock is at byte 8192 of $name\n";
         @super = unpack $magic =~ /^\0/ ? "N*" : "V*", $super;
-        ($sblkno, $cblkno, $cgoffset, $cgmask, $size, $ncg, $fsize, $ipg, $fpg) = @super[2, 3, 6, 7, 9, 11, 13, 46, 47];
+        ($sblkno, $cblkno, $iblkno, $dblkno, $cgoffset, $cgmask, $size, $ncg, $fsize, $csaddr, $cssize, $ipg, $fpg) =
+            @super[2 .. 7, 9, 11, 13, 38, 39, 46, 47];
         sub start { my $c = shift; $c * $fpg + $cgoffset * ($c & ~$cgmask & 0xffffffff) }
-        print $size * $fsize, " ", (start($ncg - 1) + $sblkno) * $fsize / 512, "\n";
-        for ($c = 0; $c < $ncg; $c++) { print start($c) + $cblkno, " ", $ipg / 8, "\n" }' "${1:-copy.img}"
+        print $size * $fsize, " ", (start($ncg - 1) + $sblkno) * $fsize / 512, " $fpg $csaddr ", $cssize / $fsize, "\n";
+        for ($c = 0; $c < $ncg; $c++) {
+            print start($c) + $cblkno, " ", $ipg / 8, " ", start($c) + $iblkno, " ", start($c) + $sblkno, " ", start($c) + $dblkno, "\n";
+        }' "${1:-copy.img}"
 }
 
 whole() {
@@ -90,7 +100,7 @@ whole() {
 }
 
 last_copy() {
-    by_superblock | sed 's/.* //; q'
+    by_superblock | awk '{ print $2; exit }'
 }
 
 groups() {
@@ -115,11 +125,267 @@ all_used() (
     fi
 )
 
-recover() (
-    away=$(fls -r -u -p -f ufs1 "$1" ${3:+"$3"} | awk -F "\t" '("/" $2 "/") ~ "/[.][.]/"') || exit 1
-    [ -z "$away" ] || { complain "recover: of $1 nothing is copied, since a name leads out of $2: $away"; exit 1; }
-    tsk_recover -a ${3:+-d "$3"} -f ufs1 "$1" "$2"
+# faults IMAGE TYPE..: what keeps the tools from reading inodes of these types to their end, a line each: the byte and width of a field, the
+# number by which it can be read, and why. It is a size that is more than the addresses hold (of a file, by 1 MiB), or than the volume, or an
+# address outside of it; of a directory also a word outside of it. The words of a file stay, since their block may be another file's
+faults() {
+    [ "${order-}" ] || return 0
+    by_superblock "$1" 2>/dev/null | perl -e '($order, $bsize, $fsize, $name, @types) = @ARGV;
+        ($word, $half, $quad) = $order eq "little" ? qw(V v Q<) : qw(N n Q>);
+        open F, "<", $name or die "$name: $!\n";
+        ($n, $frag) = ($bsize / 4, $bsize / $fsize); $wanted{oct $_} = 1 for @types;
+        ($bytes) = split " ", <STDIN>; $end = $bytes / $fsize; $i = 0;
+        sub words { seek F, $_[0] * $fsize, 0; read F, my $piece, $bsize; unpack "$word*", $piece }
+        sub last_block {
+            my ($f, $level) = @_; my @words = words($f);
+            for (my $k = $#words; $k >= 0; $k--) { return $level ? $k * $n ** $level + last_block($words[$k], $level - 1) : $k + 1 if $words[$k] }
+            0;
+        }
+        sub first_bad {
+            my ($f, $level) = @_; my ($k, $below) = 0;
+            for (words($f)) {
+                return $k if $_ && $_ + $frag > $end;
+                return $k + $below if $_ && $level && ($below = first_bad($_, $level - 1)) >= 0;
+                $k += $n ** $level;
+            }
+            -1;
+        }
+        sub fault { my ($at, $width, $value, $why) = @_; print $place + $at, " $width $value inode $i: $why\n" }
+        while (<STDIN>) {
+            (undef, $length, $table) = split; seek F, $table * $fsize, 0; read F, $inodes, 1024 * $length;
+            for ($k = 0; 128 * $k < length $inodes; $k++, $i++) {
+                next if $i < 2 || substr($inodes, 128 * $k, 2) eq "\0\0";
+                $inode = substr $inodes, 128 * $k, 128; $place = $table * $fsize + 128 * $k;
+                ($mode, $size, @to) = unpack "$half x6 $quad x24 ${word}15 x4 $word", $inode;
+                $type = $mode & 0170000; $held = 512 * pop @to;
+                next if !$wanted{$type} || $type == 0120000 && !$held && $size < 60;
+                @begin = (0 .. 11, 12, 12 + $n, 12 + $n + $n ** 2); @holds = ((1) x 12, $n, $n ** 2, $n ** 3);
+                for ($last = 14; $last >= 0 && !$to[$last]; $last--) {}
+                $most = $last < 0 ? 0 : ($begin[$last] + $holds[$last]) * $bsize;
+                if ($type == 0120000 && !$held) {
+                    $most = index substr($inode, 40, 60) . "\0", "\0";
+                } elsif ($size > $most || $size > $bytes) {
+                    $most = ($begin[$last] + last_block($to[$last], $last - 12)) * $bsize if $last > 11;
+                    $most = $held if $last < 12 && $held < $most && $held > $most - $bsize;
+                }
+                $most = $size if $size < $most || $type == 0100000 && $size < $most + (1 << 20);
+                $most = 0 if $most > $bytes;
+                if ($type == 040000) {
+                    for (12 .. 14) {
+                        next if !$to[$_] || $to[$_] + $frag > $end || $begin[$_] * $bsize >= $most || ($bad = first_bad($to[$_], $_ - 12)) < 0;
+                        $most = ($begin[$_] + $bad) * $bsize if ($begin[$_] + $bad) * $bsize < $most;
+                    }
+                }
+                fault(8, 8, $most, "its size is $size, and " . ($most ? "it is read up to byte $most" : "it is passed over")) if $size != $most;
+                next if $type == 0120000 && !$held;
+                for (0 .. 14) {
+                    last if $begin[$_] * $bsize >= $most;
+                    $count = $_ == int($most / $bsize) && $_ < 12 ? int(($most % $bsize + $fsize - 1) / $fsize) : $frag;
+                    fault(40 + 4 * $_, 4, 0, "its address $_ is $to[$_], outside of the volume, and it has zeros there") if $to[$_] + $count > $end && $to[$_];
+                }
+            }
+        }' "$order" "$bsize" "$fsize" "$@"
+}
+
+# bounded IMAGE TYPE..: the name of the image to read in place of that: itself, or a copy without the faults, which are named
+bounded() {
+    found=$(faults "$@") || found=
+    [ "$found" ] || { echo "$1"; return; }
+    echo "$found" | cut -d ' ' -f 4- >&2
+    # shellcheck disable=SC2016
+    if cp "$1" bounded.img && chmod u+w bounded.img && echo "$found" | perl -e 'open F, "+<", "bounded.img" or die "bounded.img: $!\n";
+        while (<STDIN>) {
+            ($at, $width, $value) = split; $bytes = substr pack("Q>", $value), -$width;
+            seek F, $at, 0; print F $ARGV[0] eq "little" ? scalar reverse $bytes : $bytes;
+        }
+        close F or die "bounded.img: $!\n"' "$order"; then
+        echo bounded.img
+    else
+        rm -f bounded.img
+        complain "of $1 nothing is read, since bounded.img isn't made (is the disk full?)"
+    fi
+}
+
+# For awk, over the lines of fls -p: what fls and tsk_recover leave out, or would write to one place. They don't look into a directory more than
+# 128 deep, or whose path has more than 4096 bytes (here that begins anew at 100 and 1800), or whose entry has the type of something else
+# shellcheck disable=SC2016
+of_listing='
+    function deep(path) { return length(path) > 1800 || gsub("/", "/", path) > 98 }
+    function above(path) { return match(path, "/[^/]*$") ? substr(path, 1, RSTART - 1) : "" }
+    function inode(line) { sub(/:$/, "", line); sub(/.* /, "", line); sub(/[^0-9].*/, "", line); return line }
+    function kind(line) { return line ~ /^.\/d/ ? "D" : line ~ /^.\/[rl]/ ? "F" : "" }
+    function unread(line, path) { return line ~ /^[d-]\/d/ ? deep(path) : kind(line) == "D" }
+    function tell(line, mark) {
+        if (!kind(line)) return
+        print kind(line) "\t" mark "\t" inode(line) "\t" $2
+        delete read[inode(line)]; more = 1
+    }
+    $1 == "fault" { print; next }
+    deep(above($2)) { next }
+    $1 ~ /^[d-]\/d/ && !deep($2) { read[inode($1)] }
+    END { if (more) for (i in read) print "read\t-\t" i "\t-" }'
+
+newline='
+'
+# next_of: takes the first line off `todo`, as i and path. It fails where i was done already, or is below such a one
+next_of() {
+    case $left in *read*) done=$done$(printf '%s\n' "$left" | awk '$1 == "read" { printf "%s ", $3 }') ;; esac
+    left='' line=${todo%%"$newline"*} && todo=${todo#"$line"} && todo=${todo#"$newline"}
+    [ "$line" ] || return 1
+    i=${line%%"$tab"*} path=${line#*"$tab"}
+    case $done in *" ${i:-2} "*) return 1 ;; esac
+    done="$done${i:-2} "
+}
+
+is_whole() {
+    case $newline$left$newline in *"${newline}fault$newline"*) return 1 ;; esac
+}
+
+list_names() (
+    LC_ALL=C how='' tab=$(printf '\t') done=" " left=''
+    [ "$1" != -m ] || { how="-m"; shift; }
+    image=$(bounded "$1" 40000) || exit 1
+    todo="${2-}$tab"
+    exec 3>&1
+    while [ "$todo" ]; do
+        next_of || continue
+        [ ! "$how" ] || { printf '%s\n' "$path"; fls -r -m / -f ufs1 "$image" ${i:+"$i"}; } |
+            awk 'NR == 1 { before = $0; next } { print substr($0, 1, 3) before substr($0, 4) }'
+        left=$({ printf '\t%s\n' "$path"; fls -r -p -f ufs1 "$image" ${i:+"$i"} || echo fault; } | awk -F "$tab" -v how="$how" 'NR == 1 { before = $2; next }'"$of_listing"'
+            { is_unread = unread($1, $2); $2 = before $2 } !how { print $1 "\t" $2 | "cat >&3" } is_unread { tell($1, "-") }')
+        is_whole || complain "list_names: the list of what is in /$path isn't whole" || :
+        [ -z "$left" ] || todo=$(printf '%s\n' "$left" | awk -F "$tab" '$1 == "D" { print $3 "\t" $4 "/" }')$newline$todo
+    done
+    rm -f bounded.img
 )
+
+# recovered IMAGE PLACE [I]: as recover, of an image where no size is too large
+recovered() (
+    LC_ALL=C tab=$(printf '\t') done=" " left='' status=0
+    todo="${3-}$tab$2"
+    while [ "$todo" ]; do
+        next_of || continue
+        left=$({ fls -r -u -p -f ufs1 "$1" ${i:+"$i"} || echo fault; } | { sort -t "$tab" -k 2 || echo fault; } | awk -F "$tab" -v before=${#path} '
+            ("/" $2 "/") ~ "/[.][.]/" { print "away\t-\t-\t" $2 }'"$of_listing"'
+            $2 == same && inode($1) != inode(held) { if (!told) tell(held, "="); tell($1, "="); told = 1; next }
+            { same = $2; held = $1; if (told = unread($1, $2) || $1 ~ /^d\/r/) tell($1, length($2) + before > 2000 ? "=" : "-") }')
+        is_whole || complain "recover: the list of what becomes $path isn't whole, so more may be left out" || status=1
+        away=''
+        case $left in *away*) away=$(printf '%s\n' "$left" | grep '^away' | cut -f 4) ;; esac
+        [ -z "$away" ] || { complain "recover: of $1 nothing is copied into $path, since a name leads out of it: $away" || status=1; continue; }
+        tsk_recover -a ${i:+-d "$i"} -f ufs1 "$1" "$path" || status=1
+        while IFS=$tab read -r kind mark number name; do
+            to=$path/$name
+            case $mark in =) to=$2.$number ;; esac
+            case $kind in
+                D) [ ! -e "$to" ] || [ -d "$to" ] || to=$2.$number ;;
+                F) [ ! -e "$to" ] || to=$2.$number ;;
+                *) continue ;;
+            esac
+            [ "$to" != "$2.$number" ] || echo "recover: $name, inode $number, is copied as $to"
+            case $kind in
+                D) todo=$todo$newline$number$tab$to ;;
+                F) mkdir -p "$(dirname "$to")" && icat -f ufs1 "$1" "$number" | dd of="$to" conv=sparse status=none || status=1 ;;
+            esac
+        done <<EOF
+$left
+EOF
+    done
+    exit $status
+)
+
+recover() (
+    status=0 image=$(bounded "$1" 100000 40000 120000) || exit 1
+    recovered "$image" "$2" ${3:+"$3"} || status=$?
+    rm -f bounded.img
+    exit $status
+)
+
+unnamed() (
+    image=$(bounded "$from" 100000 40000 120000) || exit 1
+    mkdir -p unnamed.d
+    { fsck_ffs -n copy.img; echo "status $?"; } | sed -nE 's/^(UNREF|BAD.DUP) ([A-Z]+) I=([0-9]+).*/\2 \3/p; /^status [2-9]/p' | while read -r kind i; do
+        case $kind in
+            status) complain "unnamed: the check ends with $i, so it names none" || : ;;
+            FILE) icat -f ufs1 "$image" "$i" | dd of=unnamed.d/"$i" conv=sparse status=none ;;
+            *) recovered "$image" unnamed.d/"$i".d "$i" || : ;;
+        esac
+    done
+    rm -f bounded.img
+    ! rmdir unnamed.d 2>/dev/null || complain "unnamed: the report names none"
+)
+
+bad_areas() (
+    found=$(maps) || exit 1
+    awk '$2 ~ /^0x/ && $3 != "+" { print $1, $2 }' copy.map | while read -r at size; do
+        echo "area $(((at - 512 * $1) / fsize)) $(((at + size - 1 - 512 * $1) / fsize))"
+    done | { cat; echo "$found"; by_superblock; } | owners
+)
+
+# owners: of each fragment in the lines `area` of standard input what ffs_find owner prints of it, in one pass over the inodes; it wants the
+# lines of maps and of by_superblock too. After an inode's eleventh fault it goes on
+owners() {
+    perl -e '($order, $bsize, $fsize) = @ARGV; ($word, $half, $quad) = $order eq "little" ? qw(V v Q<) : qw(N n Q>);
+        open F, "<", "copy.img" or die "copy.img: $!\n";
+        ($n, $frag, $wanted, $told, $lost) = ($bsize / 4, $bsize / $fsize, "", "", "");
+        while (<STDIN>) {
+            @line = split;
+            if (/^area/) { push @areas, [$line[1] < 0 ? 0 : $line[1], $line[2]] }
+            elsif (/^lost/) { for ($f = $line[1]; $f <= $line[-1]; $f++) { vec($lost, $f, 1) = 1 } }
+            elsif (/^no map/) { $unmapped{$line[-1]} = 1 }
+            elsif (@line == 5 && !$fpg) { ($bytes, undef, $fpg, $csaddr, $cssize) = @line; $size = $bytes / $fsize }
+            elsif (@line == 5) { push @groups, [@line] }
+        }
+        for (@areas) { for ($f = $$_[0]; $f <= $$_[1] && $f < $size; $f++) { vec($wanted, $f, 1) = 1 } }
+        sub reserved {
+            my $f = shift; my $c = int($f / $fpg); my ($group, $length, $table, $super, $data) = @{$groups[$c]};
+            return $f < ${$groups[0]}[3] ? "boot area" : $f >= $csaddr && $f < $csaddr + $cssize ? "summary" : "" if $f < $super || $f >= $data;
+            return "superblock of group $c" if $f < $group;
+            return "group block of group $c" if $f < $table;
+            my $i = $c * 8 * $length + ($f - $table) * $fsize / 128;
+            "inode table of group $c, inodes $i to " . ($i + $fsize / 128 - 1);
+        }
+        sub claim {
+            my ($f, $count, $what) = @_;
+            for (; $count--; $f++) {
+                next if $f >= $size || !vec($wanted, $f, 1) || reserved($f);
+                vec($told, $f, 1) = 1; print "$what\n";
+            }
+        }
+        sub below {
+            my ($f, $level, $k) = @_;
+            return if !$f || $f >= $size;
+            claim($f, $frag, "inode $i indirect block " . ++$indirect);
+            seek F, $f * $fsize, 0; read F, my $piece, $bsize;
+            my $each = $n ** ($level - 1);
+            for (unpack "$word*", $piece) {
+                last if $k >= $blocks;
+                if ($level > 1) { below($_, $level - 1, $k) } elsif ($_) { claim($_, $frag, "inode $i block $k") }
+                $k += $each;
+            }
+        }
+        for (@groups) {
+            my (undef, $length, $table) = @$_;
+            seek F, $table * $fsize, 0; read F, my $inodes, 1024 * $length;
+            for ($at = 0; $at < length $inodes; $at += 128, $number++) {
+                ($mode, $bytes, @to) = unpack "$half x6 $quad x24 ${word}15 x4 $word", substr $inodes, $at, 128;
+                next if $number < 2 || ($mode & 0170000) !~ /^(16384|32768|40960)$/ || ($mode & 0170000) == 40960 && !$to[15];
+                ($i, $indirect, $blocks) = ($number, 0, int(($bytes + $bsize - 1) / $bsize));
+                for ($k = 0; $k < 12 && $k < $blocks; $k++) {
+                    $rest = int(($bytes - $k * $bsize + $fsize - 1) / $fsize);
+                    claim($to[$k], $blocks < 13 && $rest < $frag ? $rest : $frag, "inode $i block $k") if $to[$k];
+                }
+                for (($k, $level) = (12, 1); $level < 4 && $k < $blocks; $k += $n ** $level++) { below($to[11 + $level], $level, $k) }
+            }
+        }
+        for (@areas) {
+            for ($f = $$_[0]; $f <= $$_[1] && $f < $size; $f++) {
+                next if vec($told, $f, 1);
+                $c = int($f / $fpg);
+                print reserved($f) || (vec($lost, $f, 1) ? "lost" : $unmapped{$c} ? "no map in group $c" : "free"), "\n";
+            }
+        }' "$order" "$bsize" "$fsize"
+}
 
 put() {
     [ $# = 3 ] || { complain "put: wants a byte, a width and a number, and was given: $*"; return 1; }

@@ -55,6 +55,11 @@ class Case:
         for path in paths:
             self.stakes[path] = (name, data)
 
+    def in_one_order(self):
+        """Leaves a damage out in the other order of bytes, where no recipe for it depends on the order."""
+        if self.kind.order == "be":
+            raise NotHere
+
     def write(self):
         with open(f"{self.place}/copy.img", "wb") as it:
             it.write(self.volume.image)
@@ -103,15 +108,30 @@ class Case:
             if os.path.isdir(f"{self.place}/{name}"):
                 self.trees.append(tree_of_files(f"{self.place}/{name}"))
                 shutil.rmtree(f"{self.place}/{name}")
+        self._collect_beside()
         if os.path.isdir(f"{self.place}/unnamed.d"):
             self.pieces += [("unnamed", data) for data in tree_of_files(f"{self.place}/unnamed.d").values()]
             shutil.rmtree(f"{self.place}/unnamed.d")
 
+    def _collect_beside(self):
+        """What `recover` put beside a directory, by its inode."""
+        for name in os.listdir(self.place):
+            if not re.fullmatch(r"(saved|every|below)\.d\.\d+", name):
+                continue
+            if os.path.isdir(f"{self.place}/{name}"):
+                self.trees.append(tree_of_files(f"{self.place}/{name}"))
+                self.pieces += [("beside", data) for data in self.trees[-1].values()]
+                shutil.rmtree(f"{self.place}/{name}")
+            else:
+                self.pieces.append(("beside", self.bytes_of(name)))
+                os.remove(f"{self.place}/{name}")
+
     def complaints(self, recipe, first=""):
         """What a recipe prints on standard error; nothing of what it saves is kept."""
         run = self.page.run(recipe, {}, self.place, first=first)
-        for name in ("saved.d", "every.d"):
-            shutil.rmtree(f"{self.place}/{name}", ignore_errors=True)
+        for name in os.listdir(self.place):
+            if re.fullmatch(r"(saved|every|unnamed)\.d(\.\d+)?", name):
+                subprocess.run(["rm", "-r", name], cwd=self.place, check=True)
         return run.stderr.decode("utf-8", "surrogateescape")
 
     def refuses(self, recipes, **variables):
@@ -149,10 +169,14 @@ class Case:
 
     def has_bytes(self, path):
         data = self.tree[path]
-        if not isinstance(data, bytes) or any(tree.get(path) == data for tree in self.trees):
+        if not isinstance(data, bytes) or any(self.is_padded(tree.get(path), data) for tree in self.trees):
             return True
         saved = [("saved", self.bytes_of(name)) for name in os.listdir(self.place) if re.fullmatch(r"saved\.\d+", name)]
         return any(piece.rstrip(b"\0") == data or (name == "rest" and self.is_within(data, piece)) for name, piece in self.pieces + saved)
+
+    def is_padded(self, saved, data):
+        """Whether what was saved is a file's bytes, with NULs after them in its last block, as where its size isn't known."""
+        return isinstance(saved, bytes) and saved[:len(data)] == data and len(saved) - len(data) < self.volume.layout.bsize and not saved[len(data):].strip(b"\0")
 
     def is_within(self, data, piece):
         """Whether each fragment of a file is in a piece, in which they need not follow one another."""

@@ -68,13 +68,25 @@ def make_long_directory(top):
 
 
 def make_deep(top):
-    """Directories 140 deep, with a file in each."""
+    """Directories 260 deep, with a file in each."""
     path = top
-    for number in range(140):
+    for number in range(260):
         path += "/d"
         os.makedirs(path)
         with open(f"{path}/file_{number}", "wb") as it:
             it.write(b"%d" % number * 9)
+
+
+def make_long_paths(top):
+    """Three times 14 directories, each below the one before it, with long names and a file in each; the last one is empty."""
+    for piece in range(3):
+        path = f"{top}/piece_{piece}"
+        for number in range(14):
+            path += f"/{piece}_{number:02}_" + "long" * 60
+            os.makedirs(path)
+            with open(f"{path}/file", "wb") as it:
+                it.write(b"%d %d, " % (piece, number) * 9)
+        os.makedirs(f"{path}/last")
 
 
 @dataclass
@@ -107,5 +119,6 @@ KINDS = [
     Kind("le", "8m", "version=1,bsize=4096,fsize=512,density=2048", make_long_directory, "twelve blocks"),
     Kind("be", "8m", "version=1,bsize=4096,fsize=512,density=2048", make_long_directory, "twelve blocks"),
     Kind("le", "4m", "version=1,bsize=4096,fsize=512,density=4096", make_deep, "levels"),
+    Kind("be", "4m", "version=1,bsize=4096,fsize=512,density=4096", make_long_paths, "longer than 4,096"),
     Kind("le", "48m", "version=1,bsize=65536,fsize=16384,density=16384", make_directories, "fragments of 16,384"),
 ]

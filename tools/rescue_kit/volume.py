@@ -5,7 +5,7 @@ from images.reading import DIRECT, Inode, Layout, fields_at, number_at, order_of
 
 FORMAT = 0o170000
 SYMLINK = 0o120000
-LEVELS = 200
+LEVELS = 400
 
 
 class Volume:

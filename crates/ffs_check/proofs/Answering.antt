@@ -5,17 +5,17 @@ use Rattle.ffs_volume.specs.Report.Memory.{runs_limit}
 use Rattle.ffs_report.specs.{Progress.Progress, declared.fault.RunFault.{RunFault, TheVariants.{Read, Out}}}
 use Rattle.ffs_pathnames.specs.declared.pass2.Root.{Root}
 use Rattle.ffs_workspace.specs.{declared.workspace.Workspace.Workspace, Leaves.LeavesBlockCheck}
-use Rattle.ffs_report.specs.Known.{ForBytes}
-use Rattle.ffs_check.specs.{PhaseEnds.{EndsAs, LeavesAnswers, can_end_report}, Phases.AnswersDups}
+use Rattle.ffs_image.specs.Known.{ForBytes}
+use Rattle.ffs_check.specs.{PhaseEnds.{EndsAs, AnswersAfterPhases, can_end_report}, Phases.AnswersDups}
 
 -- where a phase failed nothing is said of them but the bound, and what `has_dups` may answer
 pub unanswered : {knows : List ℕ → Type 0} {v : Layout} {w w' : Workspace} →
-    ForBytes knows (λ bytes. AnswersDups v bytes w w') → w'.runs_seen ≤ runs_limit v → LeavesAnswers false knows v w w'
+    ForBytes knows (λ bytes. AnswersDups v bytes w w') → w'.runs_seen ≤ runs_limit v → AnswersAfterPhases false knows v w w'
 unanswered dups few = record { known = λ e. absurd (cc); dups = dups; most = few }
 
 -- a phase leaves what the block check left
 pub answers_stay : {whole : Bool} {knows : List ℕ → Type 0} {v : Layout} {w u u' : Workspace} →
-    LeavesAnswers whole knows v w u → LeavesBlockCheck u u' → LeavesAnswers whole knows v w u'
+    AnswersAfterPhases whole knows v w u → LeavesBlockCheck u u' → AnswersAfterPhases whole knows v w u'
 answers_stay answers stays = record {
   known = λ e bytes k.
       let now = answers.known e bytes k in
@@ -34,8 +34,8 @@ not_whole end fault is none whole = cc (ap can_end_report is)
 
 -- an end is that of a whole report only where the phases answered Ok
 pub answers_end : {knows : List ℕ → Type 0} {v : Layout} {w w' : Workspace} (had_defect : Bool) (b c : Progress)
-    (r : Result Root RunFault) (end : End) → EndsAs had_defect b c r end → LeavesAnswers (is_ok r) knows v w w' →
-    LeavesAnswers (can_end_report end) knows v w w'
+    (r : Result Root RunFault) (end : End) → EndsAs had_defect b c r end → AnswersAfterPhases (is_ok r) knows v w w' →
+    AnswersAfterPhases (can_end_report end) knows v w w'
 answers_end had_defect b c (Ok root) end e answers =
     record { known = λ whole. answers.known refl; dups = answers.dups; most = answers.most }
 answers_end had_defect b c (Err (Read fault)) end e answers = record {

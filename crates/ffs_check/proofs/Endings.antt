@@ -8,12 +8,13 @@ use Rattle.ffs_volume.specs.Messages.{Kinds.{Message, cannot_read, has_defect, i
 use Rattle.ffs_volume.specs.Report.Opening.{has_valid_minfree, has_valid_optim, setting_lines, super_lines}
 use Rattle.ffs_volume.specs.Directories.{PathnameCheck.continues_after_root, Volumes.volume_of}
 use Rattle.ffs_volume.specs.Report.Whole.{end_by, phase_lines}
-use Rattle.ffs_report.specs.{Known.{ForBytes, IsContents}, PhaseOutcome.ImageAfter, Progress.{Progress, Said, Stopped}}
+use Rattle.ffs_report.specs.{PhaseOutcome.ImageAfter, Progress.{Progress, Said, Stopped}}
+use Rattle.ffs_image.specs.Known.{ForBytes, IsContents}
 use Rattle.ffs_report.{specs.Sink.Took, proofs.Reports.has_defect-append}
 use Rattle.ffs_report.specs.declared.fault.RunFault.{RunFault, TheVariants.{Read, Out}}
 use Rattle.ffs_pathnames.specs.{declared.pass2.Root.Root, RootAnswers.is_go}
 use Rattle.ffs_check.specs.{Moment.{Moment, ReportMoment, at_output}, Opening.IsWorkingAfter}
-use Rattle.ffs_check.specs.PhaseEnds.{EndsAs, PhasesEnd, ReportsOrStopsEarly, SaysReadFault}
+use Rattle.ffs_check.specs.PhaseEnds.{EndsAs, PhasesEnd, PhasesReport, SaysReadFault}
 use Rattle.ffs_check.proofs.EndLaws.{broke_more, broke_off, ends_known, line_after}
 
 -- what an image's bytes determine, and nothing for an image that doesn't give them
@@ -43,7 +44,7 @@ module _ (had_defect : Bool) (knows : List ℕ → Type 0) (s : Superblock) (old
       ∙ ap (λ d. d || has_defect messages) begun.defect ∙ sym (has_defect-append (super_lines s) messages)
 
   -- all was said
-  whole : (root : Root) → ReportsOrStopsEarly knows (λ bytes. phase_lines bytes s) old.report b (Ok root) →
+  whole : (root : Root) → PhasesReport knows (λ bytes. phase_lines bytes s) old.report b (Ok root) →
       new.image ≡ old.image →
       ForBytes knows (λ bytes. is_go root ≡ continues_after_root (volume_of s.layout bytes)) →
       EndsAs had_defect b new.report (Ok root) end → PhasesEnd knows s (at_output old) (at_output new) end
@@ -108,7 +109,7 @@ module _ (had_defect : Bool) (knows : List ℕ → Type 0) (s : Superblock) (old
     });
   }
 
-  pub ran : (r : Result Root RunFault) → ReportsOrStopsEarly knows (λ bytes. phase_lines bytes s) old.report b r →
+  pub ran : (r : Result Root RunFault) → PhasesReport knows (λ bytes. phase_lines bytes s) old.report b r →
       ImageAfter old.image new.image r →
       IfOk r (λ root. ForBytes knows (λ bytes. is_go root ≡ continues_after_root (volume_of s.layout bytes))) →
       EndsAs had_defect b new.report r end → PhasesEnd knows s (at_output old) (at_output new) end
@@ -119,7 +120,7 @@ module _ (had_defect : Bool) (knows : List ℕ → Type 0) (s : Superblock) (old
 
 -- the report has its output still
 pub same_output : (knows : List ℕ → Type 0) (all : List ℕ → List Message) (had_defect : Bool) (a b c : Progress)
-    (r : Result Root RunFault) (end : End) → ReportsOrStopsEarly knows all a b r → EndsAs had_defect b c r end →
+    (r : Result Root RunFault) (end : End) → PhasesReport knows all a b r → EndsAs had_defect b c r end →
     c.output ≡ a.output
 same_output knows all had_defect a b c (Ok root) end p e = ap (λ (x : Progress). x.output) e.0 ∙ p.said.said.output
 same_output knows all had_defect a b c (Err (Read fault)) end p e = elim e [

@@ -7,7 +7,8 @@ use Rattle.ffs_volume.specs.{Disk.{Superblock.Superblock, Outcome.outcome}, Repo
 use Rattle.ffs_volume.specs.{Report.Opening.super_lines, Messages.Kinds.{Message, cannot_read, cannot_alloc}}
 use Rattle.ffs_volume.specs.{Messages.{Kinds.{has_defect, stops_at_last}, Texts.texts_of}, Report.Whole.phase_lines}
 use Rattle.ffs_volume.specs.Report.Whole.{end_by, report_of, report_end, EndAgrees}
-use Rattle.ffs_report.specs.{Sink.Took, Known.IsContents, Progress.Progress}
+use Rattle.ffs_report.specs.{Sink.Took, Progress.Progress}
+use Rattle.ffs_image.specs.Known.{IsContents}
 use Rattle.ffs_layout.specs.{declared.superblock.Super.Super, Super.{ReadsSuper, superblock_in}}
 use Rattle.ffs_check.specs.{Ends.Cut, Headline.{Headline, IsCutShort, IsEndOfReport}, Moment.{Moment, ReportMoment}}
 use Rattle.ffs_volume.specs.Report.Headings.{headings_before}

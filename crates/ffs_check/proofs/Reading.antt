@@ -5,7 +5,7 @@ use Rattle.ffs_volume.specs.{declared.{Layout.Layout, SuperFault.SuperFault}, Di
 use Rattle.ffs_volume.specs.{Disk.Superblock.Superblock, Report.{Reads.{opening_reads, phase_reads}, Whole.phase_lines}}
 use Rattle.ffs_volume.specs.Report.{Opening.opening_lines, Whole.report_of}
 use Rattle.ffs_layout.specs.{declared.superblock.Super.Super, Super.{ReadsSuper, superblock_in}}
-use Rattle.ffs_report.specs.Known.{ForBytes, IsContents}
+use Rattle.ffs_image.specs.Known.{ForBytes, IsContents}
 use Rattle.ffs_check.specs.{Moment.Moment, Opening.OpeningOf, Reads.{PhasesReadWithin, ReadsWithin}}
 use Rattle.ffs_check.proofs.{Headlines.whole_there, Openings.{found_of, unfailed_of}}
 

@@ -2,7 +2,7 @@
 use Rattle.std.proofs.Common.{Bool, if◌then◌else◌, List, [], ◌++◌, ℕ}
 use Rattle.ffs_volume.specs.{Disk.Superblock.Superblock, Messages.Kinds.Message, Directories.Volumes.volume_of}
 use Rattle.ffs_volume.specs.Directories.PathnameCheck.{continues_after_root}
-use Rattle.ffs_volume.specs.Report.Whole.{rescan_lines, phase2_messages, phase3_messages, phase4_messages}
+use Rattle.ffs_volume.specs.Report.Whole.{phase1b_messages_if_dups, phase2_messages, phase3_messages, phase4_messages}
 use Rattle.ffs_volume.specs.Report.Whole.{phase5_messages, summary_messages}
 
 -- phase 5 and the summary
@@ -27,4 +27,4 @@ from_phase2 bytes s = phase2_messages s.layout bytes ++ after_phase2 (continues_
 
 -- phase 1b, where it runs, and what follows it
 abbrev pub from_phase1b : List ℕ → Superblock → List Message
-from_phase1b bytes s = rescan_lines s.layout bytes ++ from_phase2 bytes s
+from_phase1b bytes s = phase1b_messages_if_dups s.layout bytes ++ from_phase2 bytes s

@@ -11,14 +11,15 @@ use Rattle.ffs_volume.specs.Directories.PathnameCheck.{continues_after_root, pat
 use Rattle.ffs_volume.specs.Report.{Reads.{group_reads, line_reads, sweep_reads}, Whole.phase_lines}
 use Rattle.ffs_volume.specs.{Report.Whole.{summary_of, file_count, claimed_count}}
 use Rattle.ffs_volume.specs.{Laws.Geometry.IsAcceptedLayout, Report.VolumeReads.{later_reads}}
-use Rattle.ffs_report.specs.{Progress.{Progress}, Known.{ForBytes}, Paid.Paid}
+use Rattle.ffs_report.specs.{Progress.{Progress}, Paid.Paid}
+use Rattle.ffs_image.specs.Known.{ForBytes}
 use Rattle.ffs_report.specs.{PhaseOutcome.{ImageAfter}, declared.fault.RunFault.RunFault}
 use Rattle.ffs_report.{specs.declared.fault.RunFault.TheVariants.{Read, Out}, proofs.Reporting.{of_begins, of_says}}
 use Rattle.ffs_report.proofs.{Reporting.{of_part, of_fault, said_knows, reports_knowing}, Paying.paid_answer}
 use Rattle.ffs_report.proofs.Paying.{paid_fault, paid_none, paid_then, paid_within}
 use Rattle.ffs_volume.proofs.Results.{on_any}
-use Rattle.ffs_check.specs.{PhaseEnds.{HaveRun, LeavesAnswers, SaidWhole}}
-use Rattle.ffs_volume.specs.Report.Whole.{phase1_messages, rescan_lines, phase2_messages, phase3_messages, phase4_messages, phase5_messages}
+use Rattle.ffs_check.specs.{PhaseEnds.{HaveRun, AnswersAfterPhases, SaidWhole}}
+use Rattle.ffs_volume.specs.Report.Whole.{phase1_messages, phase1b_messages_if_dups, phase2_messages, phase3_messages, phase4_messages, phase5_messages}
 use Rattle.ffs_volume.specs.Report.Whole.{summary_messages}
 use Rattle.ffs_check.proofs.RestOfText.{from_phase2, after_phase2}
 use Rattle.ffs_check.specs.Phases.{AnswersDups, RescanLeaves, RescanReadsWithin, WithLeftByPhase1}
@@ -170,13 +171,13 @@ module _ (s : Superblock) where
       next r (phase1_done s w u') at (λ bytes k. k) ran
       (spends_left _ r ran.text (omega (arith, scan.reads, scan.runs)) (λ bytes k. omega (arith, scan.known bytes k)))
       (λ bytes k. text_parts bytes s)
-      (λ bytes k. more_after (rescan_lines s.layout bytes) (from_phase2 bytes s) (some_more phase2 _))
+      (λ bytes k. more_after (phase1b_messages_if_dups s.layout bytes) (from_phase2 bytes s) (some_more phase2 _))
       (with_ok _ r (scan.runs, ap (λ (w : Workspace). w.runs_again) stays.changes.only) leaves)
       (then_err _ r (λ same. λ bytes k. inl same) stays.has_dups) scan.runs ready
 
   rescanned : {d on on' : Device} {w u u' : Workspace} {start report : Progress} {reads now : ℕ}
       (r : Result (Unit {0}) RunFault) → Stage s d w start reads (phase1_done s w u) on report now →
-      RescanLeaves s.layout on on' u u' r → OnOk r (LeavesAnswers true (WithFresh s.layout d w) s.layout w u'
+      RescanLeaves s.layout on on' u u' r → OnOk r (AnswersAfterPhases true (WithFresh s.layout d w) s.layout w u'
       × ForBytes (WithLeftByPhase1 s.layout on u) (λ bytes. HoldsClaims s.layout bytes u'
       × (u'.surveyed ≡ false)))
   rescanned (Ok x) at again = (
@@ -234,7 +235,7 @@ module _ (s : Superblock) where
   module _ {d on on' : Device} {w u u' : Workspace} {start report report' : Progress} {reads now now' : ℕ} where
     -- phase 1b, or nothing
     pub phase1b_comes : (r : Result (Unit {0}) RunFault) → Stage s d w start reads (phase1_done s w u) on report now →
-        Ran (WithLeftByPhase1 s.layout on u) (rescan_lines s.layout) on on' report report' r →
+        Ran (WithLeftByPhase1 s.layout on u) (phase1b_messages_if_dups s.layout) on on' report report' r →
         RescanLeaves s.layout on on' u u' r → RescanReadsWithin s.layout on u now now' →
         Comes r (λ x. Stage s d w start reads (phase1b_done s d w u') on' report' now')
         (λ fault. RunsPhases s d on' w u' start report' reads now' (Err fault))

@@ -13,12 +13,12 @@ use Rattle.ffs_volume.specs.{declared.{Layout.Layout, Step.{Step, TheVariants.{G
 use Rattle.ffs_volume.specs.{Disk.Superblock.Superblock, Messages.Kinds.of_tree}
 use Rattle.ffs_volume.specs.Directories.{Connectivity.connectivity_lines, ReferenceCheck.reference_lines}
 use Rattle.ffs_volume.specs.Directories.{PathnameCheck.{continues_after_root, pathname_lines}, Volumes.volume_of}
-use Rattle.ffs_volume.specs.Report.DirectoryReads.{directory_cost, noted_costs, is_looked_at, phase2_cost}
+use Rattle.ffs_volume.specs.Report.DirectoryReads.{directory_cost, sweep_costs, is_looked_at, phase2_cost}
 use Rattle.std.proofs.Math.Nat.{div-add-mod', mul-le-mul_left}
 use Rattle.ffs_survey.proofs.Costs.{costs_part}
 use Rattle.ffs_names.proofs.Limits.{costs_within, noted_within}
 use Rattle.ffs_check.proofs.RestOfText.{after_phase2, from_phase1b, from_phase2, from_phase4, from_phase5}
-use Rattle.ffs_volume.specs.Report.Whole.{phase1_messages, rescan_lines, phase2_messages, phase3_messages, phase4_messages}
+use Rattle.ffs_volume.specs.Report.Whole.{phase1_messages, phase1b_messages_if_dups, phase2_messages, phase3_messages, phase4_messages}
 
 -- each Run that is seen is counted
 run_rises : (v : Layout) (s : Claims) (start len : ℕ) → s.runs + 1 ≤ (after_run v s start len).runs
@@ -74,7 +74,7 @@ directories_few : (v : Layout) (bytes : List ℕ) → IsAcceptedLayout v → pha
 directories_few v bytes g =
     let all = costs_within v bytes g in
     let looked = costs_part (is_looked_at v bytes) (directory_cost v bytes) (v.ncg * v.ipg) in
-    let noted = noted_costs v bytes in
+    let noted = sweep_costs v bytes in
     let places = few_of (some_below (is_looked_at v bytes) (v.ncg * v.ipg)) noted 0 noted (omega arith) (omega arith) in
     omega (arith, all, looked, places, noted_within v bytes g)
 
@@ -100,7 +100,7 @@ names_among bytes s =
     let after = after_phase2 (continues_after_root (volume_of s.layout bytes)) bytes s in
     let whole = ap length (text_parts bytes s) in
     let one = length-append (phase1_messages s.layout bytes) (from_phase1b bytes s) in
-    let again = length-append (rescan_lines s.layout bytes) (from_phase2 bytes s) in
+    let again = length-append (phase1b_messages_if_dups s.layout bytes) (from_phase2 bytes s) in
     let two = length-append (phase2_messages s.layout bytes) after in
     let lines = length-map (pathname_lines (volume_of s.layout bytes)) of_tree in
     omega (arith, whole, one, again, two, lines)

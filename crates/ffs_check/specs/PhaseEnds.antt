@@ -11,7 +11,8 @@ use Rattle.ffs_volume.specs.{Directories.{PathnameCheck.continues_after_root, Vo
 use Rattle.ffs_volume.specs.{Report.Whole.phase_lines, Messages.Kinds.{Message, cannot_alloc, cannot_read, has_defect}}
 use Rattle.ffs_volume.specs.{Messages.Kinds.{phase1, phase2, stops_check}, Report.{Memory.{runs_limit, held_of}, Opening.super_lines}}
 use Rattle.ffs_volume.specs.declared.Layout.{Layout}
-use Rattle.ffs_report.specs.{Known.{ForBytes, IsContents}, PhaseOutcome.{ImageAfter, SaidOf, SaysBeforeFault, StoppedOf}}
+use Rattle.ffs_report.specs.PhaseOutcome.{ImageAfter, SaidOf, SaysBeforeFault, StoppedOf}
+use Rattle.ffs_image.specs.Known.{ForBytes, IsContents}
 use Rattle.ffs_report.specs.{Progress.{Progress, Said, Stopped}, declared.fault.RunFault.{RunFault, TheVariants.Read}}
 use Rattle.ffs_report.specs.declared.fault.RunFault.TheVariants.{Out}
 use Rattle.ffs_pathnames.specs.{declared.pass2.Root.{Root, TheVariants.{Go, Stop}}, RootAnswers.is_go}
@@ -41,20 +42,21 @@ pub record SaidWhole (stops : Bool) (knows : List ℕ → Type 0) (all : List �
   pub said : SaidOf knows (λ bytes. []) all old new
   pub last : LastStops stops said.messages
 
--- all messages at Ok, whole ones but not all at a read's fault, a prefix of their bytes at a fault
--- of the output
-abbrev pub ReportsOrStopsEarly : (List ℕ → Type 0) → (List ℕ → List Message) → (old new : Progress) →
+-- PhaseReports of all phases together, which also says whether the last message stops the check, and that one is
+-- missing at a read's fault: all messages at Ok, whole ones but not all at that fault, a prefix of their bytes at
+-- a fault of the output
+abbrev pub PhasesReport : (List ℕ → Type 0) → (List ℕ → List Message) → (old new : Progress) →
     Result Root RunFault → Type 0
-ReportsOrStopsEarly knows all old new (Ok root) = SaidWhole (not (is_go root)) knows all old new
-ReportsOrStopsEarly knows all old new (Err (Read fault)) = SaidNotAll knows all old new
-ReportsOrStopsEarly knows all old new (Err (Out fault)) = StoppedOf knows all old new
+PhasesReport knows all old new (Ok root) = SaidWhole (not (is_go root)) knows all old new
+PhasesReport knows all old new (Err (Read fault)) = SaidNotAll knows all old new
+PhasesReport knows all old new (Err (Out fault)) = StoppedOf knows all old new
 
 -- the phases have run: what they leave of the image; and, where the workspace held nothing before, what they reported,
 -- and whether the check continues after the root
 pub record HaveRun (s : Superblock) (w : Workspace) (old new : ReportMoment) (result : Result Root RunFault) : Type 0
   where
     pub image : ImageAfter old.image new.image result
-    pub text : ReportsOrStopsEarly (WithFresh s.layout old.image w) (λ bytes. phase_lines bytes s) old.report new.report
+    pub text : PhasesReport (WithFresh s.layout old.image w) (λ bytes. phase_lines bytes s) old.report new.report
         result
     pub goes : IfOk result (λ root. ForBytes (WithFresh s.layout old.image w)
         (λ bytes. is_go root ≡ continues_after_root (volume_of s.layout bytes)))
@@ -74,14 +76,14 @@ pub record SaysSections (old new : Progress) (result : Result Root RunFault) : T
 -- what a check leaves of the counts of Runs and of what `has_dups` answers: where it came to its end
 -- (`whole`), what the bytes determine, and else what `has_dups` may answer; and phase 1 looked at no more Runs than a
 -- volume can have
-pub record LeavesAnswers (whole : Bool) (knows : List ℕ → Type 0) (v : Layout) (w w' : Workspace) : Type 0 where
+pub record AnswersAfterPhases (whole : Bool) (knows : List ℕ → Type 0) (v : Layout) (w w' : Workspace) : Type 0 where
   pub known : whole ≡ true → ForBytes knows (λ bytes. HasAnswers v bytes w w')
   pub dups : ForBytes knows (λ bytes. AnswersDups v bytes w w')
   pub most : w'.runs_seen ≤ runs_limit v
 
 -- after the phases the workspace says how many Runs were looked at, and is ready for the image as it is now
 pub record PhasesLeave (v : Layout) (d d' : Device) (w w' : Workspace) (result : Result Root RunFault) : Type 0 where
-  pub answers : LeavesAnswers (is_ok result) (WithFresh v d w) v w w'
+  pub answers : AnswersAfterPhases (is_ok result) (WithFresh v d w) v w w'
   pub ready : IsReady v d' w'
 
 -- the line of a failed read or of refused memory was said, and this is the end; or the output failed in it
@@ -147,7 +149,7 @@ pub record RunsToEnd (s : Superblock) (w w' : Workspace) (old new : Moment) (end
   pub ran : PhasesEnd (WithFresh s.layout old.image w) s old new end
   pub headings : IfSome (headings_before end) (TookSections [] old.out new.out)
   pub reads : PhasesRead (WithFresh s.layout old.image w) s old new
-  pub answers : LeavesAnswers (can_end_report end) (WithFresh s.layout old.image w) s.layout w w'
+  pub answers : AnswersAfterPhases (can_end_report end) (WithFresh s.layout old.image w) s.layout w w'
   pub made : IsFor s.layout w'
 
 -- what follows an accepted superblock: the memory of the check was refused, and that was said; or

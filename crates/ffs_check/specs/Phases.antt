@@ -1,7 +1,8 @@
 -- What is known of the image's bytes after phase 1, what phase 1b does, and what a workspace answers then.
 use Rattle.std.specs.Prelude.{ℕ, ◌≡◌, ◌⊎◌, ◌≤◌, ◌+◌, false, if◌then◌else◌, List, Result, OnOk}
 use Rattle.ffs_image.specs.Device.{Device}
-use Rattle.ffs_report.specs.{Known.{ForBytes, IsContents}, declared.fault.RunFault.RunFault}
+use Rattle.ffs_report.specs.declared.fault.RunFault.{RunFault}
+use Rattle.ffs_image.specs.Known.{ForBytes, IsContents}
 use Rattle.ffs_volume.specs.{declared.Layout.Layout, Blocks.Owners.owners_of}
 use Rattle.ffs_volume.specs.{Blocks.BlockCheck.{has_rescan, rescan_runs}}
 use Rattle.ffs_volume.specs.{Report.Reads.sweep_reads}

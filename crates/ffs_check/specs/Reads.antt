@@ -6,7 +6,8 @@ use Rattle.ffs_volume.specs.{declared.SuperFault.SuperFault, Disk.{Outcome.outco
 use Rattle.ffs_volume.specs.{Messages.{Kinds.Message, Texts.texts_of}, Report.VolumeReads.volume_phase_reads}
 use Rattle.ffs_volume.specs.Report.{Reads.{line_reads, opening_reads, phase_reads, reads_limit}, Whole.phase_lines}
 use Rattle.ffs_volume.specs.Report.Whole.{report_of}
-use Rattle.ffs_report.specs.{Known.ForBytes, Paid.Paid, Sink.Took, declared.fault.RunFault.RunFault}
+use Rattle.ffs_report.specs.{Paid.Paid, Sink.Took, declared.fault.RunFault.RunFault}
+use Rattle.ffs_image.specs.Known.{ForBytes}
 use Rattle.ffs_check.specs.{Ends.BrokeOffAfter, Moment.{Moment, ReportMoment}}
 
 -- the phases read the image at most as often as the layout allows, and as what the volume holds does

@@ -11,7 +11,8 @@ use Rattle.ffs_volume.specs.{Blocks.{Steps.steps_of}, Laws.ClaimBounds.{used_bit
 use Rattle.ffs_volume.specs.{Laws.{Geometry.IsAcceptedLayout, RunLengths.HasLength}, Messages.Kinds.Message}
 use Rattle.ffs_volume.specs.declared.{Class.{Class, TheVariants.Free}, Inode.Inode, Layout.Layout}
 use Rattle.ffs_volume.specs.declared.Step.{Step, TheVariants.{Gap, Run, Tail}}
-use Rattle.ffs_report.{proofs.Reporting.{of_part, of_begins, of_stops}, specs.Known.{ForBytes}}
+use Rattle.ffs_report.proofs.Reporting.{of_part, of_begins, of_stops}
+use Rattle.ffs_image.specs.Known.{ForBytes}
 use Rattle.ffs_report.specs.{PhaseOutcome.{SaidOf, StoppedOf}, Progress.{Progress, Said, Stopped}}
 use Rattle.ffs_report.specs.declared.fault.RunFault.{RunFault}
 use Rattle.ffs_image.specs.Device.{Device}

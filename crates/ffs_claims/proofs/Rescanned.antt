@@ -26,7 +26,7 @@ use Rattle.ffs_report.specs.declared.fault.RunFault.{RunFault}
 use Rattle.ffs_volume.specs.Report.Whole.{phase1b_messages}
 use Rattle.ffs_maps.specs.Bits.{bits_of}
 use Rattle.ffs_workspace.specs.Found.{WithPhase1}
-use Rattle.ffs_claims.specs.Phases.{WithNotes, rescan_messages}
+use Rattle.ffs_claims.specs.Phases.{WithNotes, phase1b_messages_for}
 use Rattle.ffs_claims.specs.{Rescan.offers_again, RescanRuns.{ReadsIndirectAgain, offers_by_owner, steps_runs_again}}
 
 -- the offers that the inode n keeps, replayed by its noted cut, and those of each of its Runs
@@ -107,7 +107,7 @@ inodes_on v bytes notes n dup dup' p some d =
 
 -- where phase 1 left the workspace, each fragment with a DUP line is to be reported
 pub text_noted : {T : Type 0} (v : Layout) (d : Device) (w : Workspace) (a b : Progress) (r : Result T RunFault) →
-    PhaseReports (WithNotes v d w) (rescan_messages (bits_of w.duplicates) v) a b r →
+    PhaseReports (WithNotes v d w) (phase1b_messages_for (bits_of w.duplicates) v) a b r →
     PhaseReports (WithPhase1 v d w) (phase1b_messages v) a b r
 unfolding phase1b_lines all_claims
 text_noted {T = T} v d w a b r p = reports_same T _ _ _ _ _ r (λ bytes k. rw k.1.duplicates refl)

@@ -8,7 +8,8 @@ use Rattle.ffs_volume.specs.{Messages.Kinds.Message, declared.{BlockMessage.Bloc
 use Rattle.ffs_volume.specs.{declared.Step.{Step, TheVariants.Gap}, Blocks.BlockCheck.after_first}
 use Rattle.ffs_volume.specs.Blocks.BlockCheck.{runs_until_reported}
 use Rattle.ffs_image.specs.Device.{Device}
-use Rattle.ffs_report.{proofs.Reporting.{of_says}, specs.Known.{ForBytes}}
+use Rattle.ffs_report.proofs.Reporting.{of_says}
+use Rattle.ffs_image.specs.Known.{ForBytes}
 use Rattle.ffs_report.specs.{PhaseOutcome.SaidOf, Progress.{Progress, Said}}
 use Rattle.ffs_maps.specs.Bits.{bits_of}
 use Rattle.ffs_walk.specs.{Keepings.{replay_in}, Rests.steps_left, Windows.KeepsBlocks}

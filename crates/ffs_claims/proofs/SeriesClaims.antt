@@ -11,7 +11,7 @@ use Rattle.ffs_walk.specs.{HeldWords.{PassesNextWord, next_address, word_step}, 
 use Rattle.ffs_walk.specs.declared.{blocks.Blocks.Blocks, walk.Walk.Walk}
 use Rattle.ffs_workspace.specs.{Holds.claims_of, declared.workspace.Workspace.Workspace}
 use Rattle.ffs_claims.{proofs.{IndirectReads.{step_on, word_unseen}, UnclaimedRuns.whole_is}, specs.Leaves.ClaimsOnly}
-use Rattle.ffs_claims.specs.{SilentWords.{ClaimsWords, MeansSame}, Series.{CanClaimSeries, PassesSeries, with_series}}
+use Rattle.ffs_claims.specs.{SilentAddresses.{ClaimsAddresses, MeansSame}, Series.{CanClaimSeries, PassesSeries, with_series}}
 
 -- a step claims a Run, and nothing is reported of it
 record ClaimsRunOf (v : Layout) (s : Claims) (step : Step) (start : ℕ) : Type 0 where
@@ -84,7 +84,7 @@ series_next {v = v} {blocks = blocks} {x = x} {y = y} {z = z} s start len small 
 -- the words of a series are claimed with nothing to report
 pub series_words : {v : Layout} {a b : Workspace} {x y : Walk} {start len : ℕ} →
     CanClaimSeries v (claims_of a) start len → claims_of b ≡ with_series v.frag (claims_of a) start len →
-    ClaimsOnly v a b → a.runs_seen ≤ b.runs_seen → PassesSeries v a.windows.blocks start len x y → ClaimsWords v a b x y
+    ClaimsOnly v a b → a.runs_seen ≤ b.runs_seen → PassesSeries v a.windows.blocks start len x y → ClaimsAddresses v a b x y
 series_words {a = a} can now only rises p = record {
   means = rw now (p.claims (claims_of a) can);
   uncut = ap is_open now ∙ can.uncut;

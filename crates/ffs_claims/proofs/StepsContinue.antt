@@ -10,7 +10,8 @@ use Rattle.ffs_volume.specs.{Blocks.Steps.{is_walked}, Disk.Areas.is_run_in_rang
 use Rattle.ffs_volume.specs.{Messages.Kinds.{Message, of_blocks}, declared.{BlockMessage.BlockMessage, Inode.Inode}}
 use Rattle.ffs_volume.specs.declared.{Layout.Layout, Step.{Step, TheVariants.Gap}}
 use Rattle.ffs_report.proofs.{Reporting.{of_says, of_same}, Reports.{stopped_more, said_then, stopped_after}}
-use Rattle.ffs_report.specs.{Known.ForBytes, PhaseOutcome.SaidOf, Progress.{Progress, Said, Stopped}}
+use Rattle.ffs_report.specs.{PhaseOutcome.SaidOf, Progress.{Progress, Said, Stopped}}
+use Rattle.ffs_image.specs.Known.{ForBytes}
 use Rattle.ffs_walk.specs.{Rests.steps_left, declared.walk.Walk.Walk}
 use Rattle.ffs_claims.specs.Lines.{of_lines, bad_lines}
 

@@ -11,7 +11,7 @@ use Rattle.ffs_walk.specs.{Rests.{most_steps_left, steps_left}, Windows.BlocksHo
 use Rattle.ffs_workspace.specs.{Holds.claims_of, Lengths.IsFor, declared.workspace.Workspace.Workspace}
 use Rattle.ffs_claims.proofs.{Frames.only_then, IndirectReads.{step_on, word_unseen}, UnclaimedRuns.whole_is}
 use Rattle.ffs_claims.proofs.Inodes.{moves_on, seen_bound}
-use Rattle.ffs_claims.specs.SilentWords.{ClaimsAddress, ClaimsSilently, ClaimsWords}
+use Rattle.ffs_claims.specs.SilentAddresses.{ClaimsAddress, ClaimsSilently, ClaimsAddresses}
 use Rattle.ffs_claims.specs.{Claiming.CanSeeNext, declared.area.DataArea.DataArea}
 
 -- a Run in range of which all fragments are unclaimed
@@ -34,7 +34,7 @@ pub address_once : {v : Layout} {a b : Workspace} {x y : Walk} {address len : �
     v.frag ≤ 8 → IsFor v a → ((contents : Option (List ℕ)) → BlocksHold v contents a.windows.blocks →
     ForContents contents (λ bytes. steps_left bytes x ≡ word_step len address block ∷ steps_left bytes y)) →
     ClaimsAddress v address len a b → most_steps_left y < most_steps_left x → SameFileBlocks x y → EntersOnly x y 0 →
-    ClaimsWords v a b x y
+    ClaimsAddresses v a b x y
 address_once {v = v} {a = a} {b = b} {x = x} {y = y} {address = address} {len = len} block some short small made next
     did falls same counted =
     let step = word_step len address block in
@@ -61,18 +61,18 @@ address_once {v = v} {a = a} {b = b} {x = x} {y = y} {address = address} {len = 
     }
 
 -- some words after others
-pub words_then : {v : Layout} {a b c : Workspace} {x y z : Walk} → ClaimsWords v a b x y → ClaimsWords v b c y z →
-    ClaimsWords v a c x z
+pub words_then : {v : Layout} {a b c : Workspace} {x y z : Walk} → ClaimsAddresses v a b x y → ClaimsAddresses v b c y z →
+    ClaimsAddresses v a c x z
 words_then {a = a} {b = b} {c = c} p q = grind (arith, moves_then, only_then)
 
 -- there is still room to count what the next address offers
 pub sees_still : {v : Layout} {a b : Workspace} {area : DataArea} {x y : Walk} → IsAcceptedLayout v →
-    CanSeeNext v a area (2 ^ 62) → ClaimsWords v a b x y → CanSeeNext v b area (2 ^ 63)
+    CanSeeNext v a area (2 ^ 62) → ClaimsAddresses v a b x y → CanSeeNext v b area (2 ^ 63)
 sees_still {a = a} g can words = grind (arith, seen_bound)
 
 -- the layout of the walk's geometry is that of the volume
-pub words_for : {v v' : Layout} {a b : Workspace} {x y : Walk} → v ≡ v' → ClaimsWords v a b x y → ClaimsWords v' a b x y
-words_for {a = a} {b = b} {x = x} {y = y} e words = subst (λ v. ClaimsWords v a b x y) e words
+pub words_for : {v v' : Layout} {a b : Workspace} {x y : Walk} → v ≡ v' → ClaimsAddresses v a b x y → ClaimsAddresses v' a b x y
+words_for {a = a} {b = b} {x = x} {y = y} e words = subst (λ v. ClaimsAddresses v a b x y) e words
 
 pub sees_for : {v v' : Layout} {w : Workspace} {area : DataArea} {most : ℕ} → v ≡ v' → CanSeeNext v w area most →
     CanSeeNext v' w area most

@@ -3,11 +3,13 @@ use Rattle.std.specs.{List.range_with_len, Prelude.{◌≡◌, ℕ, ◌+◌, ◌
 use Rattle.ffs_volume.specs.Blocks.{BlockCheck.owner_lines, Inodes.{class_of, inodes_of}, Owners.{Owner, owner_of}}
 use Rattle.ffs_volume.specs.Blocks.Claims.{Claims, after_offer, after_offers, after_owner, after_step, after_steps}
 use Rattle.ffs_volume.specs.Blocks.Claims.{at_next_inode, is_open, lines_of_offers, lines_of_steps, no_claims}
-use Rattle.ffs_volume.specs.{Blocks.Claims.step_lines, Disk.Areas.is_run_in_range, Report.VolumeReads.indirect_in_steps}
+use Rattle.ffs_volume.specs.{Blocks.Claims.step_lines, Disk.Areas.is_run_in_range}
+use Rattle.ffs_volume.specs.Report.{Memory.runs_without_claim, VolumeReads.indirect_in_steps}
 use Rattle.ffs_volume.specs.{Laws.{ClaimBounds.{used_bits, ClaimBound}, RunLengths.HasLength}, declared.Class.Class}
 use Rattle.ffs_volume.specs.declared.{Inode.Inode, Layout.Layout, Step.Step}
 use Rattle.ffs_image.specs.Device.{Device}
-use Rattle.ffs_report.specs.{Known.{ForBytes, IsContents}, PhaseOutcome.{ImageAfter, PhaseReports}, Progress.Says}
+use Rattle.ffs_report.specs.{PhaseOutcome.{ImageAfter, PhaseReports}, Progress.Says}
+use Rattle.ffs_image.specs.Known.{ForBytes, IsContents}
 use Rattle.ffs_report.specs.declared.fault.RunFault.{RunFault}
 use Rattle.ffs_layout.specs.declared.geometry.Geometry.{Geometry}
 use Rattle.ffs_walk.specs.Counts.{entered}
@@ -18,7 +20,7 @@ use Rattle.ffs_claims.specs.Leaves.{CanOffer, ClaimsAndFinds, ClaimsOnly, HasBeg
 use Rattle.ffs_claims.specs.{Lines.of_lines, Moments.{ClaimMoment, PhaseMoment}, declared.area.DataArea.DataArea}
 use Rattle.ffs_claims.specs.declared.{area.Run.Run, claim.Sweep.Sweep}
 
--- the reserved fragments are marked: where the workspace was as it was made, they alone are used then. No Run
+-- the reserved fragments are set in the map `used`: where the workspace was as it was made, they alone are used then. No Run
 -- is counted yet, and all else is as claiming leaves it (`ClaimsOnly`)
 pub record Reserves (v : Layout) (old new : Workspace) : Type 0 where
   pub claims : IsFresh v old → claims_of new ≡ no_claims v
@@ -75,10 +77,10 @@ pub record ClaimsInArea (v : Layout) (old new : Workspace) (area : DataArea) : T
   pub only : ClaimsOnly v old new
   pub all_in_range : IsDataArea v area
 
--- between two workspaces no more Runs are seen than fragments were unused at first, and 22: each Run that an
--- inode sees claims a fragment, but for its bad Runs and its dup offers, 21 at most (`runs_limit` rounds up to 22)
+-- between two workspaces no more Runs are seen than fragments were unused at first, and those that claim none:
+-- each Run that an inode sees claims a fragment, but for its bad Runs and its dup offers
 abbrev pub FewRuns : Layout → (old new : Workspace) → Type 0
-FewRuns v old new = new.runs_seen + used_bits (claims_of old) ≤ old.runs_seen + v.size + 22
+FewRuns v old new = new.runs_seen + used_bits (claims_of old) ≤ old.runs_seen + v.size + runs_without_claim
 
 -- what the steps of an inode leave: few Runs more, claims within the bound (`ClaimBound`), what was found and
 -- the piece of the inode table as they were, and all that the next inode asks for, with the image as it is then
@@ -109,7 +111,7 @@ pub record ReadsByBlock {T : Type 0} (v : Layout) (number : ℕ) (old new : Phas
 
 -- what an inode leaves: the image, but for a read that failed, what its steps leave but for `claim_bound`, `found`
 -- and `table`, a walk over the volume, and all that inodes which claim don't change (`ClaimsAndFinds`).
--- Each Run that it sees claims a fragment, but for 22, and each read is paid by a Run that is seen
+-- Each Run that it sees claims a fragment, but for those that claim none, and each read is paid by a Run that is seen
 pub record InodeLeaves {T : Type 0} (g : Geometry) (old new : PhaseMoment) (sweep : Sweep) (result : Result T RunFault)
     : Type 0 where
   pub image : ImageAfter old.image new.image result
@@ -117,7 +119,7 @@ pub record InodeLeaves {T : Type 0} (g : Geometry) (old new : PhaseMoment) (swee
   pub walk : sweep.walk.geometry ≡ g
   pub bound : FewRuns g.layout old.workspace new.workspace
   pub runs_claim : OnOk result (new.workspace.runs_seen + used_bits (claims_of old.workspace)
-      ≤ old.workspace.runs_seen + used_bits (claims_of new.workspace) + 22)
+      ≤ old.workspace.runs_seen + used_bits (claims_of new.workspace) + runs_without_claim)
   pub changes : ClaimsAndFinds old.workspace new.workspace
   pub counted : new.reads + old.workspace.runs_seen ≤ old.reads + new.workspace.runs_seen
 

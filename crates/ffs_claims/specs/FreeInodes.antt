@@ -36,7 +36,7 @@ abbrev pub IsPastFreeInodes : Table → (end next : ℕ) → Type 0
 IsPastFreeInodes t end next = next < end → HoldsInode t next → is_free_by (inode_bytes t next) ≡ false
 
 -- free inodes can be passed over from a number on: an inode is before it
-pub record CanPassFreeInodes (w : Workspace) (number end : ℕ) : Type 0 where
+pub record CanSkipFreeInodes (w : Workspace) (number end : ℕ) : Type 0 where
   pub inodes : HasTableInodes w.windows.table
   pub some : 0 < number
   pub order : number ≤ end
@@ -45,7 +45,7 @@ pub record CanPassFreeInodes (w : Workspace) (number end : ℕ) : Type 0 where
 -- the free inodes from a number on and before another one are passed over: all that come next, where the inode
 -- before them is free or Partial. If there is one, the counts of the current inode are 0 then; else nothing has
 -- changed
-pub record PassesFreeInodes (old new : Workspace) (number end next : ℕ) : Type 0 where
+pub record SkipsFreeInodes (old new : Workspace) (number end next : ℕ) : Type 0 where
   pub ends : EndsFreeInodes old.windows.table number end next
   pub all : slice_index old.kinds.items (number - 1) ≡ 0 → IsPastFreeInodes old.windows.table end next
   pub none : next ≡ number → new ≡ old

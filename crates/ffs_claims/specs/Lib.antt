@@ -3,14 +3,14 @@
 --
 --   phase1     IsLeftByPhase1, or IsCutInPhase1 where it fails; Phase1Reads; Phase1Keeps, what stays as it was
 --   phase1b    IsLeftByPhase1b; GoesOverOffers, also where it fails; Phase1bReads; Phase1bKeeps (in the file
---              `Reporting`), what stays; rescan_messages, what a second call says
+--              `Reporting`), what stays; phase1b_messages_for, what a second call says
 --
 -- For both phases: `Moments` has the values that calls change, `Lines` the lines as messages of a report, `Leaves`
 -- what calls need of a workspace and leave of it as it was.
 --
 -- Phase 1, what inodes claim: `Area` is about fragments where each Run is in range. `Claiming` leads from an inode to
 -- its steps, a step and its offers: ClaimsOwner (of `claim_inode`), ClaimsSteps, ClaimsStep, TakesOffers, TakesOffer.
--- What claims with nothing to report is claimed together: `SilentWords` is about the next addresses of a walk, and
+-- What claims with nothing to report is claimed together: `SilentAddresses` is about the next addresses of a walk, and
 -- `Series` about those of them that name whole blocks in a row. `FreeInodes` is about inodes that are passed over.
 --
 -- Phase 1b, who had a fragment first: `Rescan` has the offers that an inode keeps, replayed, `Reporting` what is
@@ -21,7 +21,7 @@ pub mod Lines
 pub mod Leaves
 pub mod Area
 pub mod Claiming
-pub mod SilentWords
+pub mod SilentAddresses
 pub mod Series
 pub mod FreeInodes
 pub mod Rescan

@@ -11,7 +11,7 @@ use Rattle.ffs_volume.specs.Messages.Kinds.{Message, phase1b}
 use Rattle.ffs_volume.specs.{Directories.Volumes.marked_by_phase1_at, Encodings.{Kinds.kind_at, Links.start_at, Notes.note_at}}
 use Rattle.ffs_volume.specs.Report.{Memory.runs_limit, Reads.{sweep_reads, table_blocks}}
 use Rattle.ffs_volume.specs.Report.{VolumeReads.{indirect_count, volume_scan_reads}, Whole.run_count}
-use Rattle.ffs_report.specs.Known.{ForBytes, IsContents}
+use Rattle.ffs_image.specs.Known.{ForBytes, IsContents}
 use Rattle.ffs_workspace.specs.{declared.workspace.Workspace.Workspace, Found.{WithFresh, WithPhase1}}
 use Rattle.ffs_workspace.specs.Lengths.{has_unreported_dups}
 use Rattle.ffs_workspace.specs.Holds.{HoldsClaims, HoldsPhase1, bool_at}
@@ -72,8 +72,8 @@ abbrev pub kept_offers : Layout → List ℕ → List Offer
 kept_offers v bytes = kept_in_owners v (no_claims v) (owners_of v bytes)
 
 -- what phase 1b says where these fragments are to be reported: all with a DUP line, or those that a call before left
-abbrev pub rescan_messages : (dup : List Bool) → Layout → List ℕ → List Message
-rescan_messages dup v bytes = phase1b ∷ of_lines (first_offer_lines dup (kept_offers v bytes))
+abbrev pub phase1b_messages_for : (dup : List Bool) → Layout → List ℕ → List Message
+phase1b_messages_for dup v bytes = phase1b ∷ of_lines (first_offer_lines dup (kept_offers v bytes))
 
 -- phase 1b has gone over the offers that inodes keep, or over the first of them where it was cut short
 abbrev pub GoesOverOffers : {T E : Type 0} → Layout → List ℕ → (old new : Workspace) → Result T E → Type 0

@@ -11,7 +11,8 @@ use Rattle.ffs_volume.specs.Blocks.Owners.{Owner, owners_of}
 use Rattle.ffs_volume.specs.declared.constants.TheConstants.{ROOTINO}
 use Rattle.ffs_volume.specs.{Laws.RunLengths.HasLength, declared.{Inode.Inode, Layout.Layout, Step.Step}}
 use Rattle.ffs_volume.specs.declared.Step.TheVariants.{Run, Tail, Gap}
-use Rattle.ffs_report.specs.{Known.{ForBytes, IsContents}, PhaseOutcome.PhaseReports, declared.fault.RunFault.RunFault}
+use Rattle.ffs_report.specs.{PhaseOutcome.PhaseReports, declared.fault.RunFault.RunFault}
+use Rattle.ffs_image.specs.Known.{ForBytes, IsContents}
 use Rattle.ffs_maps.specs.Bits.{bits_of}
 use Rattle.ffs_walk.specs.{Counts.entered, Keepings.{replay_in, run_taken}, declared.keeping.Keeping.Keeping}
 use Rattle.ffs_workspace.specs.{Tables.{HoldsInode, HoldsPiece}, declared.workspace.Workspace.Workspace}

@@ -7,7 +7,7 @@ use Rattle.ffs_walk.specs.{Counts.EntersOnly, HeldWords.{IsInHeldBlock, next_add
 use Rattle.ffs_walk.specs.{Rests.{SameFileBlocks, most_steps_left}, declared.blocks.Blocks.Blocks}
 use Rattle.ffs_walk.specs.declared.walk.Walk.{Walk}
 use Rattle.ffs_workspace.specs.declared.workspace.Workspace.{Workspace}
-use Rattle.ffs_claims.specs.{Claiming.CanSeeNext, SilentWords.{ClaimsWords, MeansSame}, declared.area.DataArea.DataArea}
+use Rattle.ffs_claims.specs.{Claiming.CanSeeNext, SilentAddresses.{ClaimsAddresses, MeansSame}, declared.area.DataArea.DataArea}
 
 -- a word is left of the single indirect block that a walk is in, and this is the address there
 pub record HasNext (blocks : Blocks) (w : Walk) (address : ℕ) : Type 0 where
@@ -48,6 +48,6 @@ pub record CanClaimNext (w : Workspace) (area : DataArea) (walk : Walk) : Type 0
 
 -- what some of the next words offer is claimed, and the walk is in the same block
 pub record ClaimsNext (old new : Workspace) (walk walk' : Walk) : Type 0 where
-  pub words : ClaimsWords walk.geometry.layout old new walk walk'
+  pub words : ClaimsAddresses walk.geometry.layout old new walk walk'
   pub held : IsInHeldBlock new.windows.blocks walk'
   pub falls : most_steps_left walk' < most_steps_left walk

@@ -3,7 +3,7 @@
 ghost use Rattle.std.specs.Prelude.{◌≡◌, ◌<◌, ◌≤◌, ◌+◌, length};
 ghost use Rattle.ffs_volume.specs.declared.constants.TheConstants.{DINODE_SIZE};
 ghost use Rattle.ffs_workspace.specs.Tables.{HoldsInode};
-ghost use Rattle.ffs_claims.specs.FreeInodes.{CanPassFreeInodes, EndsFreeInodes, HasTableInodes, IsPastFreeInodes, PassesFreeInodes};
+ghost use Rattle.ffs_claims.specs.FreeInodes.{CanSkipFreeInodes, EndsFreeInodes, HasTableInodes, IsPastFreeInodes, SkipsFreeInodes};
 ghost use Rattle.ffs_claims.specs.FreeInodes.{inode_bytes, is_free_by};
 
 use crate::store::clear_counts;
@@ -67,11 +67,12 @@ fn free_inodes_end(table: &Table, number: u32, end: u32) -> u32
 
 /// Passes over the inodes from `number` on, below `end`, that the window holds and that are free,
 /// where the inode before them is free or Partial: free inodes are mostly side by side. Returns the
-/// number of the next inode.
+/// number of the next inode. Nothing is stored of them: a new workspace holds what a free inode has,
+/// and of one that was used what it held of them stays.
 #[inline(always)]
-pub fn pass_free_inodes(workspace: &mut Workspace, number: u32, end: u32) -> u32
-    requires { CanPassFreeInodes workspace.old number end }
-    ensures { PassesFreeInodes workspace.old workspace.new number end result }
+pub fn skip_free_inodes(workspace: &mut Workspace, number: u32, end: u32) -> u32
+    requires { CanSkipFreeInodes workspace.old number end }
+    ensures { SkipsFreeInodes workspace.old workspace.new number end result }
 {
     if workspace.kinds[number as usize - 1] != 0 {
         return number;

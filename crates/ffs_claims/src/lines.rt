@@ -1,4 +1,4 @@
-//! The lines of phase 1, but for that of a Tail (`step` of `offer`).
+//! The lines of phase 1, but for that of a Tail (`claim_step` of `offer`).
 
 ghost use Rattle.std.specs.Prelude.{◌≡◌, ◌==◌, ◌&&◌, ◌<◌, ◌^◌, not};
 ghost use Rattle.ffs_volume.specs.Blocks.{BlockCheck.{class_lines, count_lines}, Inodes.is_file_or_dir};

@@ -42,7 +42,12 @@ fn fragment_in_range(geometry: &Geometry, fragment: u64, in_range: bool) -> bool
 /// its Run is in range.
 #[inline(always)]
 #[tactic(auto, using(crate::proofs::Frames::stay, ffs_volume::proofs::Potentials::in_range_below))]
-fn take(geometry: &Geometry, workspace: &mut Workspace, fragment: u64, in_range: bool) -> bool
+fn claim_offer(
+    geometry: &Geometry,
+    workspace: &mut Workspace,
+    fragment: u64,
+    in_range: bool,
+) -> bool
     requires { CanOffer geometry.now.layout workspace.old 1 in_range
         (is_fragment_in_range geometry.now.layout fragment) }
     ensures taken { TakesOffer geometry.now.layout fragment workspace.old workspace.new }
@@ -65,7 +70,7 @@ fn take(geometry: &Geometry, workspace: &mut Workspace, fragment: u64, in_range:
 }
 
 /// Takes one offer, and reports what is wrong with it.
-fn offer<W: Output>(
+fn take_offer<W: Output>(
     geometry: &Geometry,
     workspace: &mut Workspace,
     number: u32,
@@ -81,7 +86,7 @@ fn offer<W: Output>(
     ensures taken { TakesOffer geometry.now.layout fragment workspace.old workspace.new }
 {
     let is_eleventh = workspace.dup_offers == MAXDUP;
-    if !take(geometry, workspace, fragment, in_range) {
+    if !claim_offer(geometry, workspace, fragment, in_range) {
         return Ok(());
     }
     say_dup(number, fragment as u32, is_eleventh, report)
@@ -89,7 +94,7 @@ fn offer<W: Output>(
 
 /// Takes the offers of a Run, one after another, and reports what is wrong with them. `in_range`
 /// says that the Run is in range.
-fn offers<W: Output>(
+fn take_offers<W: Output>(
     geometry: &Geometry,
     workspace: &mut Workspace,
     number: u32,
@@ -104,7 +109,7 @@ fn offers<W: Output>(
         (claim_moment W.Output workspace.new report.new) result }
 {
     for index in 0..run.len {
-        offer(
+        take_offer(
             geometry,
             workspace,
             number,
@@ -135,13 +140,13 @@ fn take_run_in_range<W: Output>(
         workspace.kept += u64::from(run.len);
         return Ok(true);
     }
-    offers(geometry, workspace, number, run, true, report)?;
+    take_offers(geometry, workspace, number, run, true, report)?;
     Ok(is_open(workspace))
 }
 
 /// Takes the offers of a bad Run of the current inode, which isn't cut. No fragment past the volume
 /// is in range: so a Run that begins there is kept at once, and nothing of it is claimed or dup.
-fn offers_of_bad_run<W: Output>(
+fn take_bad_run<W: Output>(
     geometry: &Geometry,
     workspace: &mut Workspace,
     number: u32,
@@ -157,7 +162,7 @@ fn offers_of_bad_run<W: Output>(
         workspace.kept += u64::from(run.len);
         return Ok(());
     }
-    offers(geometry, workspace, number, run, false, report)
+    take_offers(geometry, workspace, number, run, false, report)
 }
 
 /// Takes a Run of the current inode. Returns whether the next step is seen.
@@ -188,7 +193,7 @@ fn take_run<W: Output>(
     if is_eleventh {
         return Ok(false);
     }
-    offers_of_bad_run(geometry, workspace, number, run, report)?;
+    take_bad_run(geometry, workspace, number, run, report)?;
     Ok(is_open(workspace))
 }
 
@@ -197,7 +202,7 @@ fn take_run<W: Output>(
 /// # Errors
 /// A write of the report that failed.
 #[tactic(auto, using(crate::proofs::Frames::stay))]
-pub fn step<W: Output>(
+pub fn claim_step<W: Output>(
     geometry: &Geometry,
     workspace: &mut Workspace,
     area: &mut DataArea,

@@ -2,14 +2,15 @@
 
 ghost use Rattle.std.specs.Prelude.{◌≡◌, OnOk};
 ghost use Rattle.ffs_volume.specs.{Blocks.Inodes.inode_of, Report.Whole.phase1b_messages};
-ghost use Rattle.ffs_report.specs.{Known.ForBytes, PhaseOutcome.{HeadingFirst, ImageAfter, PhaseReports}};
+ghost use Rattle.ffs_report.specs.PhaseOutcome.{HeadingFirst, ImageAfter, PhaseReports};
+ghost use Rattle.ffs_image.specs.Known.{ForBytes};
 ghost use Rattle.ffs_report.specs.Progress.{progress};
 ghost use Rattle.ffs_volume.specs.Messages.Kinds as messages;
 ghost use Rattle.ffs_workspace.specs.{Found.WithPhase1, Ready.IsReady};
 ghost use Rattle.ffs_walk.specs.Keepings.{replay_in};
 ghost use Rattle.ffs_claims.specs.Moments.{after_one_read, claim_moment, phase_moment};
 ghost use Rattle.ffs_claims.specs.{Phases.{IsLeftByPhase1b, Phase1bReads}, Reporting.{CanRewalk, Phase1bKeeps}};
-ghost use Rattle.ffs_claims.specs.Phases.{GoesOverOffers, Phase1bReadsUnlimited, WithNotes, rescan_messages};
+ghost use Rattle.ffs_claims.specs.Phases.{GoesOverOffers, Phase1bReadsUnlimited, WithNotes, phase1b_messages_for};
 ghost use Rattle.ffs_maps.specs.Bits.{bits_of};
 ghost use Rattle.ffs_claims.specs.{Reporting.ReportsOffers, Rescan.{ReplaysStep, step_offers_again}};
 ghost use Rattle.ffs_claims.specs.RescanRuns.{CanReportStep, CountsStep, RereadsByBlock, Rewalks};
@@ -123,7 +124,7 @@ fn phase1b_unlimited<I: Image, W: Output>(
     ensures faults { ImageAfter (I.device image.old) (I.device image.new) result }
     ensures again { PhaseReports
         (WithNotes geometry.now.layout (I.device image.old) workspace.old)
-        (rescan_messages (bits_of workspace.old.duplicates) geometry.now.layout)
+        (phase1b_messages_for (bits_of workspace.old.duplicates) geometry.now.layout)
         (progress W.sink report.old) (progress W.sink report.new) result }
     ensures heading { HeadingFirst messages.phase1b (progress W.sink report.old)
         (progress W.sink report.new) result }
@@ -181,7 +182,7 @@ pub fn phase1b<I: Image, W: Output>(
     // Where a call before was cut short, what it left is reported, and no more.
     ensures again { PhaseReports
         (WithNotes geometry.now.layout (I.device image.old) workspace.old)
-        (rescan_messages (bits_of workspace.old.duplicates) geometry.now.layout)
+        (phase1b_messages_for (bits_of workspace.old.duplicates) geometry.now.layout)
         (progress W.sink report.old) (progress W.sink report.new) result }
     ensures offers { ForBytes
         (WithNotes geometry.now.layout (I.device image.old) workspace.old)

@@ -13,8 +13,8 @@
 ghost use Rattle.std.specs.Prelude.{◌≡◌, ◌≢◌, ◌^◌, ◌<◌, false, IsTrue};
 ghost use Rattle.ffs_volume.specs.declared.Layout.{Layout};
 ghost use Rattle.ffs_walk.specs.{HeldWords.IsInHeldBlock, Windows.HasRoom, Rests.IsAtTop};
-ghost use Rattle.ffs_claims.specs.{Claiming.CanSeeNext, SilentWords.{CanClaimWords, ClaimsAddress, CanClaimAddress}};
-ghost use Rattle.ffs_claims.specs.{SilentWords.{ClaimsWords, with_run_counts}, Series.{CanClaimNext, ClaimsNext}};
+ghost use Rattle.ffs_claims.specs.{Claiming.CanSeeNext, SilentAddresses.{CanClaimAddresses, ClaimsAddress, CanClaimAddress}};
+ghost use Rattle.ffs_claims.specs.{SilentAddresses.{ClaimsAddresses, with_run_counts}, Series.{CanClaimNext, ClaimsNext}};
 ghost use Rattle.ffs_claims.specs.Series.{HasNext, PassesSeries};
 
 use crate::area::DataArea;
@@ -36,7 +36,7 @@ struct RunCounts {
 }
 
 impl RunCounts {
-    ghost use Rattle.ffs_claims.specs.SilentWords.{with_run_counts};
+    ghost use Rattle.ffs_claims.specs.SilentAddresses.{with_run_counts};
 
     /// The counts of a workspace.
     #[inline(always)]
@@ -201,10 +201,10 @@ fn claim_words_in(
     area: &DataArea,
     walk: &mut Walk,
 )
-    requires can { CanClaimWords (with_run_counts workspace.old counts.old) area.now walk.old }
+    requires can { CanClaimAddresses (with_run_counts workspace.old counts.old) area.now walk.old }
     requires held { IsInHeldBlock workspace.old.windows.blocks walk.old }
     requires order { order ≡ walk.old.geometry.layout.order }
-    ensures { ClaimsWords walk.old.geometry.layout (with_run_counts workspace.old counts.old)
+    ensures { ClaimsAddresses walk.old.geometry.layout (with_run_counts workspace.old counts.old)
         (with_run_counts workspace.new counts.new) walk.old walk.new }
 {
     while walk.has_word() {
@@ -223,9 +223,9 @@ fn claim_counted_words(
     area: &DataArea,
     walk: &mut Walk,
 )
-    requires can { CanClaimWords (with_run_counts workspace.old counts.old) area.now walk.old }
+    requires can { CanClaimAddresses (with_run_counts workspace.old counts.old) area.now walk.old }
     requires held { IsInHeldBlock workspace.old.windows.blocks walk.old }
-    ensures { ClaimsWords walk.old.geometry.layout (with_run_counts workspace.old counts.old)
+    ensures { ClaimsAddresses walk.old.geometry.layout (with_run_counts workspace.old counts.old)
         (with_run_counts workspace.new counts.new) walk.old walk.new }
 {
     // The order is asked for once, and not for each word.
@@ -240,9 +240,10 @@ fn claim_counted_words(
 /// the registers for themselves.
 #[inline(never)]
 fn claim_held_words(workspace: &mut Workspace, area: &DataArea, walk: &mut Walk)
-    requires can { CanClaimWords workspace.old area.now walk.old }
+    requires can { CanClaimAddresses workspace.old area.now walk.old }
     requires held { IsInHeldBlock workspace.old.windows.blocks walk.old }
-    ensures { ClaimsWords walk.old.geometry.layout workspace.old workspace.new walk.old walk.new }
+    ensures { ClaimsAddresses walk.old.geometry.layout workspace.old workspace.new walk.old
+        walk.new }
 {
     // What each word asks for or changes is a local value, which no write to the map can change,
     // and is written back once.
@@ -260,8 +261,9 @@ fn claim_held_words(workspace: &mut Workspace, area: &DataArea, walk: &mut Walk)
 #[inline(always)]
 #[tactic(auto, using(crate::proofs::Frames::stay))]
 pub fn claim_words(workspace: &mut Workspace, area: &DataArea, walk: &mut Walk)
-    requires { CanClaimWords workspace.old area.now walk.old }
-    ensures { ClaimsWords walk.old.geometry.layout workspace.old workspace.new walk.old walk.new }
+    requires { CanClaimAddresses workspace.old area.now walk.old }
+    ensures { ClaimsAddresses walk.old.geometry.layout workspace.old workspace.new walk.old
+        walk.new }
 {
     if walk.is_in_held_block(&workspace.windows.blocks) {
         claim_held_words(workspace, area, walk);
@@ -278,10 +280,11 @@ fn claim_counted_direct(
     area: &DataArea,
     walk: &mut Walk,
 )
-    requires can { CanClaimWords (with_run_counts workspace.old counts.old) area.now walk.old }
+    requires can { CanClaimAddresses (with_run_counts workspace.old counts.old) area.now walk.old }
     requires top { IsAtTop walk.old }
-    ensures claims { ClaimsWords walk.old.geometry.layout (with_run_counts workspace.old counts.old)
-        (with_run_counts workspace.new counts.new) walk.old walk.new }
+    ensures claims { ClaimsAddresses walk.old.geometry.layout
+        (with_run_counts workspace.old counts.old) (with_run_counts workspace.new counts.new)
+        walk.old walk.new }
     ensures top { IsAtTop walk.new }
 {
     while walk.has_direct() {
@@ -298,9 +301,9 @@ fn claim_counted_direct(
 /// would leave. The walk is in no indirect block.
 #[inline(always)]
 pub fn claim_direct(workspace: &mut Workspace, area: &DataArea, walk: &mut Walk)
-    requires can { CanClaimWords workspace.old area.now walk.old }
+    requires can { CanClaimAddresses workspace.old area.now walk.old }
     requires top { IsAtTop walk.old }
-    ensures claims { ClaimsWords walk.old.geometry.layout workspace.old workspace.new walk.old
+    ensures claims { ClaimsAddresses walk.old.geometry.layout workspace.old workspace.new walk.old
         walk.new }
     ensures top { IsAtTop walk.new }
 {

@@ -1,7 +1,8 @@
 //! The line on a lost directory.
 
 ghost use Rattle.std.specs.Prelude.{◌≤◌, ◌+◌, length, map};
-ghost use Rattle.ffs_report.specs.{Known.ForBytes, Paid.Paid, Fails.FailsIn, PhaseOutcome.{ImageAfter, PhaseReports}};
+ghost use Rattle.ffs_report.specs.{Paid.Paid, Fails.FailsIn, PhaseOutcome.{ImageAfter, PhaseReports}};
+ghost use Rattle.ffs_image.specs.Known.{ForBytes};
 ghost use Rattle.ffs_report.specs.Progress.{progress};
 ghost use Rattle.ffs_volume.specs.{Directories.Volumes.volume_of, Messages.Kinds.of_tree};
 ghost use Rattle.ffs_workspace.specs.{Found.WithSurvey, Ready.KeepsWindows, Tables.IsTableSector};

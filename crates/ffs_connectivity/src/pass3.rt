@@ -1,7 +1,8 @@
 //! Phase 3: connectivity (fsck(8)).
 
 ghost use Rattle.std.specs.Prelude.{◌≡◌, ◌<◌, ◌≤◌, ◌+◌, ◌^◌, length, vec_len};
-ghost use Rattle.ffs_report.specs.{Known.ForBytes, Paid.Paid, Fails.FailsIn, PhaseOutcome.{HeadingFirst, ImageAfter, PhaseReports}};
+ghost use Rattle.ffs_report.specs.{Paid.Paid, Fails.FailsIn, PhaseOutcome.{HeadingFirst, ImageAfter, PhaseReports}};
+ghost use Rattle.ffs_image.specs.Known.{ForBytes};
 ghost use Rattle.ffs_report.specs.Progress.{progress};
 ghost use Rattle.ffs_volume.specs.{Directories.Connectivity.connectivity_lines, Report.Whole.phase3_messages};
 ghost use Rattle.ffs_volume.specs.Messages.Kinds as messages;

@@ -3,7 +3,7 @@
 -- SaysSummary (`Summary`). Each file, and the function that it is for:
 --
 -- Phase 4: `Ready` is what the check of references needs, and which inodes aren't allocated; `References` is what is
--- reported of an inode (`line_for`); `Passed` is which inodes are passed over (`passed_from`).
+-- reported of an inode (`line_for`); `Skipped` is which inodes are passed over (`skipped_from`).
 --
 -- Phase 5: `Records` says which summary records are read at a time, and what is found of a group (GroupIsRead of
 -- `read_group`); `Once` is about messages that are said once, `Totals` about the sums of all groups.
@@ -11,7 +11,7 @@
 -- The summary: `Reserved` and `Summing` are how many fragments and files it counts, `Summary` what it says.
 pub mod Ready
 pub mod References
-pub mod Passed
+pub mod Skipped
 pub mod Records
 pub mod Once
 pub mod Totals

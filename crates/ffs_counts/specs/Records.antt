@@ -1,7 +1,7 @@
 -- The summary records that are read at a time, and the records of a group.
 use Rattle.std.specs.{List.slice_range, Prelude.{ℕ, ◌≡◌, ◌+◌, ◌-◌, ◌*◌, ◌%◌, ◌<◌, ◌≤◌, List, Option, Result, IfOk, OnOk, min}}
 use Rattle.std.specs.Prelude.{◌/◌, ◌⊎◌, IfErr}
-use Rattle.ffs_image.specs.{Device.{Device, ForContents}, Reads.ReadAfter, declared.ImageFault.ImageFault}
+use Rattle.ffs_image.specs.{Device.{Device, ForContents}, Reads.{ReadAfter, ReadsAtMostOnce}, declared.ImageFault.ImageFault}
 use Rattle.ffs_volume.specs.{declared.{constants.TheConstants.{CSUM_SIZE, DEV_BSIZE}, Layout.Layout}}
 use Rattle.ffs_volume.specs.Disk.Areas.{group_place, summary_place}
 use Rattle.ffs_volume.specs.{Groups.{GroupCheck.group_lines, Records.summary_record}, Report.Reads.records_at_once}
@@ -56,6 +56,18 @@ pub record ReadsRecord (v : Layout) (d d' : Device) (c : ℕ) (t : Table) (resul
 pub record AreReadOnce (v : Layout) (w : Window) (c : ℕ) (before after : ℕ) : Type 0 where
   pub counted : after ≤ before + 1
   pub again : IsAtRecords v w c → after ≤ before
+
+-- the records that are read with that of group c were asked for, once at most, and nothing else
+abbrev pub AsksForRecords : {I : Type 0} → (was_read : I → ℕ → ℕ → I → Type 0) → Layout → (c : ℕ) → (old new : I) → Type 0
+AsksForRecords was_read v c old new =
+    ReadsAtMostOnce was_read (summary_place v (first_read c)) (CSUM_SIZE * records_read v (first_read c)) old new
+
+-- so were they, and then the block of group c, and nothing else
+pub record AsksForGroup {I : Type 0} (was_read : I → ℕ → ℕ → I → Type 0) (v : Layout) (c : ℕ) (old new : I) : Type 0
+  where
+    pub between : I
+    pub records : AsksForRecords was_read v c old between
+    pub block : ReadsAtMostOnce was_read (group_place v c) v.cgsize between new
 
 -- the records of group c can be read, and these are its counts by what the workspace holds
 pub record CanReadGroup (v : Layout) (d : Device) (w : Workspace) (c : ℕ) (right : Counts) : Type 0 where

@@ -1,6 +1,7 @@
 -- What the summary says.
 use Rattle.std.specs.Prelude.{◌≡◌, ℕ, [], ◌∷◌, Result, length}
-use Rattle.ffs_report.specs.{Known.ForBytes, Progress.{Progress, Says}}
+use Rattle.ffs_report.specs.Progress.{Progress, Says}
+use Rattle.ffs_image.specs.Known.{ForBytes}
 use Rattle.ffs_volume.specs.{Disk.Superblock.Superblock, Report.Whole.{summary_of, file_count, claimed_count}}
 use Rattle.ffs_maps.specs.Bits.{bits_of}
 use Rattle.ffs_counts.specs.{Reserved.{HasReserved, claimed_in}, Summing.files_among}

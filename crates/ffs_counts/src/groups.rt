@@ -2,7 +2,7 @@
 
 ghost use Rattle.std.specs.Prelude.{◌+◌};
 ghost use Rattle.ffs_workspace.specs.Ready.{KeepsWindows};
-ghost use Rattle.ffs_counts.specs.Records.{AreReadOnce, CanReadGroup, CanReadRecord, GroupIsRead, ReadsRecord};
+ghost use Rattle.ffs_counts.specs.Records.{AreReadOnce, AsksForGroup, AsksForRecords, CanReadGroup, CanReadRecord, GroupIsRead, ReadsRecord};
 
 use ffs_groups::{Counts, GroupFindings, Usage, compare_group};
 use ffs_image::{Image, ImageFault};
@@ -30,6 +30,7 @@ fn read_summaries<I: Image>(
         table.new result }
     ensures reads { AreReadOnce geometry.now.layout table.old.window group (I.reads image.old)
         (I.reads image.new) }
+    ensures asks { AsksForRecords I.was_read geometry.now.layout group image.old image.new }
 {
     let first = group - group % RECORDS_AT_ONCE;
     let count = RECORDS_AT_ONCE.min(geometry.layout.ncg - first);
@@ -46,7 +47,7 @@ fn read_summaries<I: Image>(
 ///
 /// # Errors
 /// A read of the image that failed.
-#[tactic(auto, using(crate::proofs::RecordPlaces::block_inside))]
+#[tactic(auto, using(crate::proofs::RecordPlaces::block_inside), unfolding(ffs_image::specs::Reads::ReadsAtMostOnce))]
 pub fn read_group<I: Image>(
     geometry: &Geometry,
     image: &mut I,
@@ -62,6 +63,7 @@ pub fn read_group<I: Image>(
     // One read for the group's block, and what its summary record takes.
     ensures reads { AreReadOnce geometry.now.layout workspace.old.windows.table.window group
         (I.reads image.old + 1) (I.reads image.new) }
+    ensures asks { AsksForGroup I.was_read geometry.now.layout group image.old image.new }
     ensures stays { KeepsWindows geometry.now.layout (I.device image.new) workspace.old
         workspace.new }
 {

@@ -3,13 +3,14 @@
 ghost use Rattle.std.specs.Prelude.{◌≡◌, ◌<◌, ◌≤◌, ◌+◌, ℕ, false, map, length, slice_index, vec_len};
 ghost use Rattle.ffs_volume.specs.{Messages.Kinds.of_tree, Report.Whole.phase4_messages};
 ghost use Rattle.ffs_volume.specs.Directories.{ReferenceCheck.{reference_lines, reference_lines_at}, Volumes.volume_of};
-ghost use Rattle.ffs_report.specs.{Fails.FailsIn, Known.ForBytes, Paid.Paid};
+ghost use Rattle.ffs_report.specs.{Fails.FailsIn, Paid.Paid};
+ghost use Rattle.ffs_image.specs.Known.{ForBytes};
 ghost use Rattle.ffs_report.specs.{PhaseOutcome.{HeadingFirst, ImageAfter, PhaseReports}};
 ghost use Rattle.ffs_report.specs.Progress.{progress};
 ghost use Rattle.ffs_volume.specs.Messages.Kinds as messages;
 ghost use Rattle.ffs_workspace.specs.{Found.WithFindings, Ready.{IsReady, KeepsWindows}, Tables.IsTableSector};
 ghost use Rattle.ffs_counts.specs.{Ready.{CanCheckAllocated, HasElements, AreUnallocated, AreUnallocatedFrom}, References.is_dead_by};
-ghost use Rattle.ffs_counts.specs.{References.{is_right_by}, Passed.{AreRightFrom, ArePassedFrom, CanPass}};
+ghost use Rattle.ffs_counts.specs.{References.{is_right_by}, Skipped.{AreRightFrom, AreSkippedFrom, CanSkipFrom}};
 ghost use Rattle.ffs_survey.specs.Survey.{suspect_at};
 ghost use Rattle.ffs_volume.specs.declared.constants.TheConstants as constants;
 
@@ -126,7 +127,7 @@ fn any_unmet(counts: &[u64]) -> bool
 /// over here, and each that is allocated is then looked at by itself.
 #[inline(always)]
 fn right_from(workspace: &Workspace, first: usize) -> usize
-    requires { CanPass workspace.now first }
+    requires { CanSkipFrom workspace.now first }
     ensures { AreRightFrom workspace.now first result }
 {
     let counts = workspace.references.touched();
@@ -145,9 +146,9 @@ fn right_from(workspace: &Workspace, first: usize) -> usize
 /// How many inodes from `first` on are passed over, since nothing is reported of them. There are
 /// none only where that one is allocated.
 #[inline(always)]
-fn passed_from(workspace: &Workspace, first: usize) -> usize
-    requires { CanPass workspace.now first }
-    ensures { ArePassedFrom workspace.now first result }
+fn skipped_from(workspace: &Workspace, first: usize) -> usize
+    requires { CanSkipFrom workspace.now first }
+    ensures { AreSkippedFrom workspace.now first result }
 {
     let free = unallocated_from(&workspace.kinds, first);
     if free == 0 {
@@ -239,12 +240,12 @@ pub fn phase4<I: Image, W: Output>(
     // `RIGHT_AT_ONCE`, and allocated inodes before that are looked at by themselves.
     let mut number = 0;
     while number < inodes {
-        let passed = passed_from(workspace, number as usize);
-        if passed == 0 {
+        let skipped = skipped_from(workspace, number as usize);
+        if skipped == 0 {
             report_references(geometry, image, workspace, number, report)?;
             number += 1;
         } else {
-            number += passed as u32;
+            number += skipped as u32;
         }
     }
     Ok(())

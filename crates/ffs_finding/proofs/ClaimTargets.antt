@@ -3,7 +3,7 @@ use Rattle.std.proofs.Common.{◌≡◌, ◌&&◌, ℕ, Bool, List, [], Option, 
 use Rattle.ffs_image.specs.Device.{Device}
 use Rattle.ffs_memory.specs.Account.{Account}
 use Rattle.ffs_volume.specs.{Disk.Superblock.Superblock}
-use Rattle.ffs_report.specs.{Known.{ForBytes, IsContents}}
+use Rattle.ffs_image.specs.Known.{ForBytes, IsContents}
 use Rattle.ffs_report.specs.declared.fault.RunFault.TheVariants.{Read, Out}
 use Rattle.ffs_workspace.specs.{declared.workspace.Workspace.Workspace, Holds.HoldsPhase1}
 use Rattle.ffs_finding.specs.declared.find.FindFault.{FindFault, TheVariants.{Refused, Failed, NoMemory}}

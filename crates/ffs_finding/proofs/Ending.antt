@@ -3,7 +3,8 @@ use Rattle.std.proofs.Common.{arith}
 use Rattle.std.proofs.Common.{◌∙◌, ℕ, Option, Result, Ok, Err, sym, ap, subst, inl, inr, Bool}
 use Rattle.ffs_volume.specs.{declared.SuperFault.SuperFault, Messages.{Texts.text_of}}
 use Rattle.ffs_volume.specs.Report.Opening.{fault_line}
-use Rattle.ffs_report.specs.{Known.IsContents, Sink.Sink, declared.fault.RunFault.TheVariants.{Read, Out}}
+use Rattle.ffs_report.specs.{Sink.Sink, declared.fault.RunFault.TheVariants.{Read, Out}}
+use Rattle.ffs_image.specs.Known.{IsContents}
 use Rattle.ffs_memory.specs.Account.{Account}
 use Rattle.ffs_layout.specs.Super.{ReadsSuper}
 use Rattle.ffs_finding.specs.declared.request.{Target.Target, Command.{Command, TheVariants.{Copies, InVolume}}}

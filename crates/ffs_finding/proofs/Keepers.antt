@@ -3,7 +3,8 @@ use Rattle.std.proofs.Common.{◌≡◌, ◌∙◌, ℕ, ◌+◌, ◌<◌, ◌�
 use Rattle.ffs_image.specs.Device.{Device}
 use Rattle.ffs_volume.specs.{Blocks.{KeptSteps.claims_before}, Laws.Geometry.IsAcceptedLayout}
 use Rattle.ffs_volume.specs.{declared.{Layout.Layout}, Find.Owner.keeper_lines_of_inode}
-use Rattle.ffs_report.specs.{Known.{ForBytes, IsContents}, Sink.Sink}
+use Rattle.ffs_report.specs.Sink.{Sink}
+use Rattle.ffs_image.specs.Known.{ForBytes, IsContents}
 use Rattle.ffs_report.specs.declared.fault.RunFault.{RunFault, TheVariants.{Read, Out}}
 use Rattle.ffs_workspace.specs.Ready.{KeepsWindows}
 use Rattle.ffs_finding.specs.Claims.{WithOwners}

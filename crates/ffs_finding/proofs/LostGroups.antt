@@ -7,7 +7,7 @@ use Rattle.ffs_volume.{specs.Groups.Records.{group_block, group_size, has_bits, 
 use Rattle.ffs_volume.specs.{Find.Lost.{has_map, lost_lines, stretch_lines}, Blocks.Claims.all_claims}
 use Rattle.ffs_groups.specs.Free.{free_in}
 use Rattle.ffs_maps.specs.Bits.{bits_of}
-use Rattle.ffs_report.specs.Known.{ForBytes}
+use Rattle.ffs_image.specs.Known.{ForBytes}
 use Rattle.ffs_workspace.specs.declared.workspace.Workspace.{Workspace}
 use Rattle.ffs_finding.specs.Claims.{WithOwners}
 use Rattle.ffs_finding.specs.LostMaps.{is_wrong_by, lines_of_group, lines_of_groups, word_of}

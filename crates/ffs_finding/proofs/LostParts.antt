@@ -5,7 +5,8 @@ use Rattle.ffs_image.specs.Device.{Device}
 use Rattle.ffs_volume.specs.{declared.Layout.Layout, Find.Lost.lost_lines}
 use Rattle.ffs_groups.specs.Free.{free_in}
 use Rattle.ffs_maps.specs.Bits.{bits_of}
-use Rattle.ffs_report.{specs.{Known.{ForBytes, IsContents}, Sink.Sink, declared.fault.RunFault.RunFault}, proofs.Sinks.took_then}
+use Rattle.ffs_report.{specs.{Sink.Sink, declared.fault.RunFault.RunFault}, proofs.Sinks.took_then}
+use Rattle.ffs_image.specs.Known.{ForBytes, IsContents}
 use Rattle.ffs_workspace.specs.declared.workspace.Workspace.{Workspace}
 use Rattle.ffs_finding.specs.Claims.{WithOwners}
 use Rattle.ffs_finding.specs.{Outcome.{PrintedTo, PrintsLines, any_line}, LostMaps.lines_of_groups}

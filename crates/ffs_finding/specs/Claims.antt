@@ -5,7 +5,8 @@ use Rattle.ffs_volume.specs.{declared.Layout.Layout, Blocks.Claims.all_claims, E
 use Rattle.ffs_volume.specs.Report.Memory.{held_of}
 use Rattle.ffs_maps.specs.Bits.{bits_of}
 use Rattle.ffs_memory.specs.Account.{Account, Granted, GaveUp}
-use Rattle.ffs_report.specs.{Known.{ForBytes, IsContents}, Sink.Sink, declared.fault.RunFault.TheVariants.{Read, Out}}
+use Rattle.ffs_report.specs.{Sink.Sink, declared.fault.RunFault.TheVariants.{Read, Out}}
+use Rattle.ffs_image.specs.Known.{ForBytes, IsContents}
 use Rattle.ffs_workspace.specs.{declared.workspace.Workspace.Workspace, Holds.HoldsPhase1, Ready.IsReady}
 use Rattle.ffs_finding.specs.declared.find.FindFault.{FindFault, TheVariants.{Refused, Failed, NoMemory}}
 

@@ -5,7 +5,8 @@ use Rattle.ffs_image.specs.{Device.{Device, ForContents}, Reads.ReadAfter, decla
 use Rattle.ffs_volume.specs.{Disk.{Superblock.order_of, Outcome.{outcome, super_bytes}}, Find.Copies.asked_sectors}
 use Rattle.ffs_volume.specs.{Find.Copies.{copy_lines_of, sector_count}, declared.constants.TheConstants.DEV_BSIZE}
 use Rattle.ffs_volume.specs.declared.constants.TheConstants.{SUPERBLOCK_BYTES}
-use Rattle.ffs_report.specs.{Known.IsContents, declared.fault.RunFault.RunFault}
+use Rattle.ffs_report.specs.declared.fault.RunFault.{RunFault}
+use Rattle.ffs_image.specs.Known.{IsContents}
 use Rattle.ffs_check.specs.{Moment.Moment, declared.words.TheConstants.SECTOR_END}
 use Rattle.ffs_finding.specs.{Outcome.Finds, declared.copies.TheConstants.SECTORS_BEFORE_MAGIC}
 use Rattle.ffs_walk.specs.{Windows.WindowHolds, declared.window.Window.Window}

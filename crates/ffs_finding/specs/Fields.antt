@@ -2,7 +2,7 @@
 use Rattle.std.specs.{Prelude.{◌≡◌, ℕ, List, Option, Ok}, List.flat_map}
 use Rattle.ffs_image.specs.Device.{Device}
 use Rattle.ffs_volume.specs.Disk.{Superblock.Superblock, Outcome.outcome}
-use Rattle.ffs_report.specs.Known.{IsContents}
+use Rattle.ffs_image.specs.Known.{IsContents}
 use Rattle.ffs_finding.specs.declared.fields.Field.{Field}
 use Rattle.ffs_volume.specs.Find.Fields as book
 

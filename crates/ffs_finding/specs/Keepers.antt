@@ -8,7 +8,8 @@ use Rattle.ffs_volume.specs.{Encodings.ReplayCounts.replayed_runs, Report.Whole.
 use Rattle.ffs_volume.specs.Find.Owner.{group_of_fragment, indirect_in, keeper_lines, keeper_text, map_text}
 use Rattle.ffs_volume.specs.Encodings.Notes.{cut_in}
 use Rattle.ffs_image.specs.Device.{Device}
-use Rattle.ffs_report.specs.{Known.{ForBytes, IsContents}, declared.fault.RunFault.RunFault}
+use Rattle.ffs_report.specs.declared.fault.RunFault.{RunFault}
+use Rattle.ffs_image.specs.Known.{ForBytes, IsContents}
 use Rattle.ffs_walk.specs.{Keepings.{replay_in, run_taken}, Windows.WindowHolds, declared.keeping.Keeping.Keeping}
 use Rattle.ffs_walk.specs.declared.window.Window.{Window}
 use Rattle.ffs_workspace.specs.{Ready.CanRead, declared.workspace.Workspace.Workspace}

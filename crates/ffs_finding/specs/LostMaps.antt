@@ -6,7 +6,8 @@ use Rattle.ffs_volume.specs.{declared.Layout.Layout, Groups.Records.{bit_at, gro
 use Rattle.ffs_volume.specs.{Messages.Texts.number_text, Find.Lost.{lost_of_group, wrongly_free_of_group}}
 use Rattle.ffs_maps.specs.Bits.{bits_of}
 use Rattle.ffs_groups.specs.Free.{free_in}
-use Rattle.ffs_report.specs.{Known.IsContents, declared.fault.RunFault.RunFault}
+use Rattle.ffs_report.specs.declared.fault.RunFault.{RunFault}
+use Rattle.ffs_image.specs.Known.{IsContents}
 use Rattle.ffs_walk.specs.{Windows.WindowHolds, declared.window.Window.Window}
 use Rattle.ffs_check.specs.Moment.{Moment}
 use Rattle.ffs_finding.specs.{Outcome.FindsAny, declared.lost.{GroupMap.GroupMap, Wrong.Wrong}}

@@ -1,7 +1,8 @@
 -- What a command leaves of its image and of its output, by its answer. `all` are the lines that it
 -- prints of an image's bytes, and `knows` says which bytes these are.
 use Rattle.std.specs.{Prelude.{◌≡◌, ℕ, Bool, true, false, List, [], ◌∷◌, ◌++◌, Result, Ok, Err, IfOk, ⊤}, List.concat}
-use Rattle.ffs_report.specs.{Known.ForBytes, Sink.{Sink, Took, BrokeOff, Prints}, PhaseOutcome.ImageAfter}
+use Rattle.ffs_report.specs.{Sink.{Sink, Took, BrokeOff, Prints}, PhaseOutcome.ImageAfter}
+use Rattle.ffs_image.specs.Known.{ForBytes}
 use Rattle.ffs_report.specs.declared.fault.RunFault.{RunFault, TheVariants.{Read, Out}}
 use Rattle.ffs_check.specs.Moment.{Moment}
 

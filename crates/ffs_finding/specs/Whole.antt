@@ -11,7 +11,8 @@ use Rattle.ffs_volume.specs.{Messages.Texts.text_of, Report.{Opening.fault_line,
 use Rattle.ffs_volume.specs.{Report.Reads.sweep_reads, Find.{Copies.copies_lines, InodeText.inode_listing}}
 use Rattle.ffs_volume.specs.Find.{Fields.wrong_fields, Lost.lost_lines, Owner.lines_of_fragment}
 use Rattle.ffs_volume.specs.Report.Memory.{held_of}
-use Rattle.ffs_report.specs.{Known.IsContents, Sink.Sink, declared.fault.RunFault.TheVariants.{Read, Out}}
+use Rattle.ffs_report.specs.{Sink.Sink, declared.fault.RunFault.TheVariants.{Read, Out}}
+use Rattle.ffs_image.specs.Known.{IsContents}
 use Rattle.ffs_memory.specs.Account.{Account, Granted, GaveUp, RefusedOneMore}
 use Rattle.ffs_check.specs.{Moment.Moment, Run.IsPrintedOrBrokeOff, Taken.{AsksMemory, Takes}}
 use Rattle.ffs_layout.specs.Super.{IsUnreadable, ReadsSuper}

@@ -1,12 +1,14 @@
 //! `copies`: the sectors at which a superblock is accepted.
 ghost use Rattle.std.specs.Prelude.{◌≡◌, ◌+◌, ◌*◌, ◌≤◌, ◌<◌, ◌||◌, ◌==◌, length, vec_len};
+ghost use Rattle.ffs_image.specs.Reads.{ReadsAtMostOnce};
 ghost use Rattle.ffs_volume.specs.{Disk.{Outcome.outcome, Numbers.u32_at as u32_in}, declared.Order.TheVariants.Little};
 ghost use Rattle.ffs_volume.specs.declared.{Order.TheVariants.Big, constants.TheConstants.FS_MAGIC};
 ghost use Rattle.ffs_volume.specs.Find.Copies.{copies_lines, copy_lines_of, copy_text, order_word, which_text};
-ghost use Rattle.ffs_report.specs.{Known.IsContents, Sink.Prints};
+ghost use Rattle.ffs_report.specs.Sink.{Prints};
+ghost use Rattle.ffs_image.specs.Known.{IsContents};
 ghost use Rattle.ffs_check.specs.Moment.{moment};
 ghost use Rattle.ffs_finding.specs.{Outcome.Finds, Copies.{CanFindAt, IsSectorsEnd, FindsAt, FindsMagic}};
-ghost use Rattle.ffs_finding.specs.Copies.{ReadsCopies, ReadsWindow, window_bytes};
+ghost use Rattle.ffs_finding.specs.Copies.{ReadsCopies, ReadsWindow, window_bytes, window_length, window_place};
 ghost use Rattle.ffs_walk.specs.Windows.{WindowHolds};
 
 use ffs_check::words::SECTOR_END;
@@ -97,6 +99,8 @@ fn has_magic<I: Image>(image: &mut I, window: &mut Window, sector: u32) -> Resul
         result }
     ensures reads { ReadsWindow (I.device image.old) sector window.old (I.reads image.old)
         (I.reads image.new) }
+    ensures asks { ReadsAtMostOnce I.was_read (window_place sector)
+        (window_length (I.device image.old).size (window_place sector)) image.old image.new }
 {
     let place = (u64::from(sector) + SECTORS_BEFORE_MAGIC) * DEV_BSIZE;
     let start = place / WINDOW_BYTES * WINDOW_BYTES;

@@ -1,8 +1,9 @@
 //! `fields`: fields of the superblock that a kernel computes with, and that a check doesn't look
 //! at.
 ghost use Rattle.std.specs.{Prelude.{◌≡◌, ◌+◌, ◌*◌, ◌^◌, ◌≤◌, ◌<◌, length, map}, Int.{cast_signed, div_ceil}};
+ghost use Rattle.ffs_image.specs.Reads.{ReadsAtMostOnce};
 ghost use Rattle.ffs_volume.specs.Disk.{Numbers.u64_at as u64_in, Outcome.super_sector};
-ghost use Rattle.ffs_volume.specs.{declared.constants.TheConstants.{DEV_BSIZE, SBSIZE}, Find.Fields.exponent_of};
+ghost use Rattle.ffs_volume.specs.{declared.constants.TheConstants.{DEV_BSIZE, SBSIZE, SUPERBLOCK_BYTES}, Find.Fields.exponent_of};
 ghost use Rattle.ffs_volume.specs.Find.Fields.{field_32, field_lines, field_text, layout_fields, mask_of, total_64};
 ghost use Rattle.ffs_volume.specs.Find.Fields.{total_fields, wrong_fields};
 ghost use Rattle.ffs_layout.specs.Super.{superblock_in};
@@ -181,6 +182,7 @@ fn print_wrong_fields<W: Output>(
 ///
 /// # Errors
 /// A read of the image that failed, and a write that failed.
+#[tactic(auto, unfolding(ffs_image::specs::Reads::ReadsAtMostOnce))]
 pub fn find_wrong_fields<I: Image, W: Output>(
     image: &mut I,
     sector: Option<u32>,
@@ -193,6 +195,8 @@ pub fn find_wrong_fields<I: Image, W: Output>(
         result }
     ensures place { FailsIn (λ at. at ≡ super_sector sector) result }
     ensures reads { I.reads image.new ≤ I.reads image.old + 1 }
+    ensures asks { ReadsAtMostOnce I.was_read (super_sector sector * DEV_BSIZE) SUPERBLOCK_BYTES
+        image.old image.new }
 {
     let start = u64::from(sector.unwrap_or(SUPERBLOCK_SECTOR as u32)) * DEV_BSIZE;
     let mut bytes = [0; SUPERBLOCK_BYTES];

@@ -1,10 +1,12 @@
 //! `inode`: where an inode lies, and what it says.
 ghost use Rattle.std.specs.Prelude.{◌≡◌, ◌+◌, ◌*◌, ◌/◌, ◌≤◌, ◌<◌};
+ghost use Rattle.ffs_image.specs.Reads.{ReadsAtMostOnce};
 ghost use Rattle.ffs_volume.specs.{Blocks.Inodes.{inode_from_bytes}, Disk.Areas.inode_place, Find.InodeText.place_text};
-ghost use Rattle.ffs_volume.specs.declared.constants.TheConstants.{DEV_BSIZE};
+ghost use Rattle.ffs_volume.specs.declared.constants.TheConstants.{DEV_BSIZE, DINODE_SIZE};
 ghost use Rattle.ffs_volume.specs.Find.InodeText.{numbers_text, address_text, addresses_text, bytes_text};
 ghost use Rattle.ffs_volume.specs.Find.InodeText.{inode_listing, class_word, fifteen_text};
-ghost use Rattle.ffs_report.specs.{Fails.FailsIn, Known.IsContents, Sink.Prints};
+ghost use Rattle.ffs_report.specs.{Fails.FailsIn, Sink.Prints};
+ghost use Rattle.ffs_image.specs.Known.{IsContents};
 ghost use Rattle.ffs_check.specs.Moment.{moment};
 ghost use Rattle.ffs_finding.specs.Outcome.{Finds};
 
@@ -167,6 +169,7 @@ fn print_bytes<W: Output>(
 ///
 /// # Errors
 /// A read of the image that failed, and a write that failed.
+#[tactic(auto, unfolding(ffs_image::specs::Reads::ReadsAtMostOnce))]
 pub fn find_inode<I: Image, W: Output>(
     geometry: &Geometry,
     image: &mut I,
@@ -182,6 +185,8 @@ pub fn find_inode<I: Image, W: Output>(
     ensures place { FailsIn (λ at. at ≡ inode_place geometry.now.layout number / DEV_BSIZE)
         result }
     ensures reads { I.reads image.new ≤ I.reads image.old + 1 }
+    ensures asks { ReadsAtMostOnce I.was_read (inode_place geometry.now.layout number) DINODE_SIZE
+        image.old image.new }
 {
     if number >= geometry.inodes() {
         return Ok(());

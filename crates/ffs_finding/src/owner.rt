@@ -1,10 +1,12 @@
 //! `owner`: to what a fragment belongs.
 ghost use Rattle.std.specs.Prelude.{◌≡◌, ◌+◌, ◌*◌, ◌/◌, ◌≤◌, ◌<◌, ◌^◌, length, true, slice_index, vec_len};
-ghost use Rattle.ffs_volume.specs.{Disk.Areas.is_reserved, Blocks.Inodes.inode_of, Encodings.Kinds.is_allocated_kind};
+ghost use Rattle.ffs_image.specs.Reads.{ReadsAtMostOnce};
+ghost use Rattle.ffs_volume.specs.{Disk.Areas.{group_place, is_reserved}, Blocks.Inodes.inode_of, Encodings.Kinds.is_allocated_kind};
 ghost use Rattle.ffs_volume.specs.{Encodings.Replay.is_replay_open, Report.Reads.sweep_reads, Groups.Records.bit_at};
 ghost use Rattle.ffs_volume.specs.Find.Owner.{indirect_in, keeper_text, keeper_lines, map_text, lines_of_fragment};
 ghost use Rattle.ffs_volume.specs.{Find.Owner.{part_text, reserved_text, table_text}, Encodings.Notes.cut_in};
-ghost use Rattle.ffs_report.specs.{Known.IsContents, Sink.Prints};
+ghost use Rattle.ffs_report.specs.Sink.{Prints};
+ghost use Rattle.ffs_image.specs.Known.{IsContents};
 ghost use Rattle.ffs_walk.specs.{Keepings.replay_in, Windows.{CanWalk, KeepsBlocks}};
 ghost use Rattle.ffs_workspace.specs.Ready.{CanRead, IsReady, KeepsWindows};
 ghost use Rattle.ffs_check.specs.Moment.{moment};
@@ -135,6 +137,9 @@ fn print_unclaimed<I: Image, W: Output>(
         result }
     ensures window { IsBlockWindow geometry.now.layout (I.device image.new) window.new }
     ensures reads { I.reads image.new ≤ I.reads image.old + 1 }
+    ensures asks { ReadsAtMostOnce I.was_read
+        (group_place geometry.now.layout (fragment / geometry.now.layout.fpg))
+        geometry.now.layout.cgsize image.old image.new }
 {
     let place = geometry.group_place(fragment / geometry.layout.fpg);
     window.fill(image, place, geometry.layout.cgsize as usize)?;

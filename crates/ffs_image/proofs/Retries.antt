@@ -2,7 +2,7 @@
 use Rattle.std.{proofs.Common.{◌≡◌, ◌<◌, ◌-◌, ◌^◌, ℕ, suc, Result, Ok, Err, subst, inl, inr, rules, arith}, specs.Prelude.IsErr}
 use Rattle.std.specs.Prelude.{MatchResult}
 use Rattle.std.specs.declared.io.Error.{Error}
-use Rattle.ffs_image.specs.Interrupted.{Interruptions, InterruptedOnce, IsInterrupted, IsTriedAgain, ReadHasFailed}
+use Rattle.ffs_image.specs.{Interrupted.{Interruptions, InterruptedOnce, IsInterrupted, IsTriedAgain}, Source.ReadHasFailed}
 
 -- after the last one it gives up
 pub given_up : {F : Type 0} (was_asked : F → Result ℕ Error → F → Type 0) (n : ℕ) (a b : F) (error : Error) →

@@ -1,6 +1,6 @@
 -- Calls of a system that a signal may interrupt, and which of them are tried again. `was_asked`
 -- says that a file or a writer was asked: what it was before, the answer, and what it was after.
-use Rattle.std.specs.{Prelude.{◌≡◌, ◌⊎◌, ◌-◌, ◌^◌, ◌<◌, ℕ, zero, suc, Result, IsErr, IsErrAnd, MatchResult}, declared.io.Error.Error}
+use Rattle.std.specs.{Prelude.{◌≡◌, ◌⊎◌, ◌-◌, ◌^◌, ℕ, zero, suc, Result, IsErr, IsErrAnd}, declared.io.Error.Error}
 use Rattle.std.specs.{declared.io.ErrorKind.TheVariants.Interrupted, IoError.error_kind}
 
 -- a signal interrupted the call that has this answer
@@ -27,21 +27,6 @@ pub record IsAnswered {F : Type 0} (was_asked : F → Result ℕ Error → F →
   pub before : Interruptions was_asked tries old between
   pub asked : was_asked between answer new
   pub stands : IsInterrupted answer → ⊥
-
--- some read of a file failed: it answered an error, or gave nothing of bytes that were asked for
-pub record ReadHasFailed {F : Type 0} (was_read : F → ℕ → ℕ → Result ℕ Error → F → Type 0) : Type 0 where
-  pub old : F
-  pub at : ℕ
-  pub len : ℕ
-  pub answer : Result ℕ Error
-  pub new : F
-  pub some : 0 < len
-  pub read : was_read old at len answer new
-  pub nothing : MatchResult answer (λ n. n ≡ 0) (λ _. Unit {0})
-
--- so many reads failed: none, or some read of a file did
-abbrev pub IsReadCaused : {F : Type 0} → (F → ℕ → ℕ → Result ℕ Error → F → Type 0) → (failures : ℕ) → Type 0
-IsReadCaused was_read failures = (failures ≡ 0) ⊎ ReadHasFailed was_read
 
 -- the answer of the same call, tried again only where a signal interrupted it, u64::MAX times at most
 abbrev pub IsTriedAgain : {F : Type 0} → (F → Result ℕ Error → F → Type 0) → (old new : F) → Result ℕ Error → Type 0

@@ -1,5 +1,5 @@
 -- What a source of an image's bytes gives, and what a read does to it.
-use Rattle.std.specs.Prelude.{◌≡◌, ◌+◌, ◌-◌, ◌<◌, ◌≤◌, ℕ, zero, suc, List, length, drop, take, Option, Result, Ok, Err}
+use Rattle.std.specs.Prelude.{◌≡◌, ◌⊎◌, ◌+◌, ◌-◌, ◌<◌, ◌≤◌, ℕ, zero, suc, List, length, drop, take, Option, Result, Ok, Err}
 use Rattle.std.specs.{Prelude.{OnOk, IfOk, IfSome, MatchResult}, Io.ReadsAtMost, declared.io.Error.Error}
 use Rattle.ffs_image.specs.Device.{ForContents, Rose}
 
@@ -24,6 +24,21 @@ pub record IsFailed (old new : SourceState) : Type 0 where
 abbrev pub SourceAfter : {T E : Type 0} → (old new : SourceState) → Result T E → Type 0
 SourceAfter old new (Ok x) = new ≡ old
 SourceAfter old new (Err fault) = IsFailed old new
+
+-- some read of a file failed: it answered an error, or gave nothing of bytes that were asked for
+pub record ReadHasFailed {F : Type 0} (was_read : F → ℕ → ℕ → Result ℕ Error → F → Type 0) : Type 0 where
+  pub old : F
+  pub at : ℕ
+  pub len : ℕ
+  pub answer : Result ℕ Error
+  pub new : F
+  pub some : 0 < len
+  pub read : was_read old at len answer new
+  pub nothing : MatchResult answer (λ n. n ≡ 0) (λ _. Unit {0})
+
+-- so many reads failed: none, or some read of a file did
+abbrev pub IsReadCaused : {F : Type 0} → (F → ℕ → ℕ → Result ℕ Error → F → Type 0) → (failures : ℕ) → Type 0
+IsReadCaused was_read failures = (failures ≡ 0) ⊎ ReadHasFailed was_read
 
 -- a file was asked for its end: where it answers, that is how many bytes it has. Its bytes stay
 pub record GivesEnd (old new : Option (List ℕ)) (result : Result ℕ Error) : Type 0 where
@@ -71,6 +86,10 @@ pub record FailsAfter {S E : Type 0} (was_read : S → ℕ → ℕ → Result �
   pub before : IsReadTo was_read at len filled old between
   pub fault : E
   pub failed : was_read between (at + filled) (len - filled) (Err fault) new
+
+-- all of len bytes at a place were asked for: they were read, or after some of them a read failed
+abbrev pub IsAskedFor : {S E : Type 0} → (S → ℕ → ℕ → Result ℕ E → S → Type 0) → (at len : ℕ) → (old new : S) → Type 0
+IsAskedFor was_read at len old new = IsReadTo was_read at len len old new ⊎ FailsAfter was_read at len old new
 
 -- the reads of all of len bytes at a place: piece after piece, up to the first that failed, and no
 -- other

@@ -52,6 +52,7 @@ impl<F: RawFile + Drop> SourceImage<OpenedFile<F>> {
 
 impl<S: Source> Image for SourceImage<S> {
     ghost use Rattle.std.specs.Prelude.{[]};
+    ghost use Rattle.ffs_image.specs.Source.{IsAskedFor};
 
     ghost device = { λ i. let s = S.state i.source in
         record {
@@ -63,6 +64,8 @@ impl<S: Source> Image for SourceImage<S> {
         } };
 
     ghost reads = { λ _. 0 };
+
+    ghost was_read = { λ i at size after. IsAskedFor S.was_read at size i.source after.source };
 
     ghost sized = { λ i. S.sized i.source };
 

@@ -87,7 +87,7 @@ impl<'a, I: Image> LimitedImage<'a, I> {
 
 impl<'a, I: Image> Image for LimitedImage<'a, I> {
     ghost use Rattle.std.specs.Prelude.{◌+◌, length};
-    ghost use Rattle.ffs_image.specs.{Limited.PassesOrRefuses, Reads.ReadsBytes};
+    ghost use Rattle.ffs_image.specs.{Limited.PassesOrRefuses, Reads.{ReadsAtMostOnce, ReadsBytes}};
 
     ghost device = { λ l. record (limited_device (I.device l.begins.value) l.below.ghost_name
         (I.reads l.begins.value) l.limit) {
@@ -96,6 +96,9 @@ impl<'a, I: Image> Image for LimitedImage<'a, I> {
         } };
 
     ghost reads = { λ l. reads_asked l.limit l.left l.spent };
+
+    ghost was_read = { λ l at size after. ReadsAtMostOnce I.was_read at size l.below.now
+        after.below.now };
 
     ghost sized = { λ l. I.sized l.begins.value };
 
@@ -111,6 +114,7 @@ impl<'a, I: Image> Image for LimitedImage<'a, I> {
         self.failed_sector
     }
 
+    #[tactic(auto, unfolding(crate::specs::Reads::ReadsAtMostOnce))]
     fn read_at(&mut self, at: u64, buf: &mut [u8]) -> Result<(), ImageFault>
         requires { at + length buf.old
             ≤ (⟦<LimitedImage<'a, I> as Image>⟧.device self.old).size }
@@ -118,6 +122,8 @@ impl<'a, I: Image> Image for LimitedImage<'a, I> {
             (⟦<LimitedImage<'a, I> as Image>⟧.device self.new) at buf.new result }
         ensures counted { ⟦<LimitedImage<'a, I> as Image>⟧.reads self.new
             ≤ ⟦<LimitedImage<'a, I> as Image>⟧.reads self.old + 1 }
+        ensures asked { ReadsAtMostOnce I.was_read at (length buf.old) self.old.below.now
+            self.new.below.now }
 
         // Which reads are passed on, and which refused.
         ensures passes { PassesOrRefuses (self.old.failed || self.old.spent) self.old.left

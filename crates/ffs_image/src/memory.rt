@@ -41,6 +41,8 @@ impl Image for MemoryImage {
 
     ghost reads = { λ _. 0 };
 
+    ghost was_read = { λ m _ _ after. after ≡ m };
+
     ghost sized = { λ _. refl };
 
     fn size(&self) -> u64 {

@@ -1,6 +1,6 @@
 //! A file that is open for reading alone.
 ghost use Rattle.std.specs.{Prelude.{◌≡◌, ◌<◌, length, IfOk, MatchResult}};
-ghost use Rattle.ffs_image.specs.{Device.ForContents, Interrupted.{IsReadCaused, IsTriedAgain}, Source.{GivesBytes, GivesSome}};
+ghost use Rattle.ffs_image.specs.{Device.ForContents, Interrupted.IsTriedAgain, Source.{GivesBytes, GivesSome, IsReadCaused}};
 
 use crate::file::OpenFault;
 use crate::interrupted::is_interrupted;

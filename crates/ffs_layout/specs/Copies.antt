@@ -1,6 +1,6 @@
 -- What is read and compared of a superblock and its copies.
 use Rattle.std.specs.Prelude.{◌≡◌, ℕ, ◌+◌, ◌<◌, ◌≤◌, ◌/◌, ◌⊎◌, true, false, List, Option, None, Result, Ok, Err}
-use Rattle.ffs_image.specs.Device.{Device, Faulted, ForContents}
+use Rattle.ffs_image.specs.{Device.{Device, Faulted, ForContents}, Reads.ReadsAtMostOnce}
 use Rattle.ffs_volume.specs.declared.{Order.Order, SuperFault.{SuperFault, TheVariants.{CannotRead, Disagree}}}
 use Rattle.ffs_volume.specs.Disk.{Numbers.piece, Outcome.{copy_agrees, copy_place}, Superblock.layout_of}
 use Rattle.ffs_volume.specs.declared.constants.TheConstants.{SUPERBLOCK_BYTES, DEV_BSIZE}
@@ -21,6 +21,14 @@ abbrev pub ReadsSuperblockBytes : (old new : Device) → (at : ℕ) → (copy : 
     Type 0
 ReadsSuperblockBytes old new at copy (Ok x) = IsCopy old new at copy
 ReadsSuperblockBytes old new at copy (Err fault) = IsUnreadCopy old new at fault
+
+-- an image was read for the bytes of a superblock at a place, and then for those of a copy of it, each
+-- once at most, and for nothing else
+pub record ReadsSuperblocks {I : Type 0} (was_read : I → ℕ → ℕ → I → Type 0) (at : ℕ) (old new : I) : Type 0 where
+  pub copy : ℕ
+  pub between : I
+  pub first : ReadsAtMostOnce was_read at SUPERBLOCK_BYTES old between
+  pub second : ReadsAtMostOnce was_read copy SUPERBLOCK_BYTES between new
 
 -- the last copy agrees, where it is compared
 pub record CopyAgrees (old new : Device) (sector : Option ℕ) (order : Order) (bytes : List ℕ) : Type 0 where

@@ -3,8 +3,9 @@
 ghost use Rattle.std.specs.Prelude.{MatchResult, IfSome, false, ℕ, ◌^◌, IsTrue, nat_le, ◌==◌, ◌≡◌, ◌+◌, ◌*◌, ◌<◌, ◌≤◌};
 ghost use Rattle.std.specs.List.{list_all};
 ghost use Rattle.ffs_volume.specs.{Disk.{Numbers.u32_at, Superblock.{layout_of, order_of}}, Report.Reads.opening_reads};
-ghost use Rattle.ffs_volume.specs.{Disk.{Outcome.super_sector, Superblock.superblock_of}, declared.constants.TheConstants.{DEV_BSIZE, SUPERBLOCK_BYTES}};
-ghost use Rattle.ffs_layout.specs.{Accepted.IsAccepted, Copies.{ComparesCopy, ReadsSuperblockBytes}, Super.ReadsSuper};
+ghost use Rattle.ffs_volume.specs.{Disk.{Outcome.{copy_place, super_sector}, Superblock.superblock_of}, declared.constants.TheConstants.{DEV_BSIZE, SUPERBLOCK_BYTES}};
+ghost use Rattle.ffs_layout.specs.{Accepted.IsAccepted, Copies.{ComparesCopy, ReadsSuperblockBytes, ReadsSuperblocks}, Super.ReadsSuper};
+ghost use Rattle.ffs_image.specs.Reads.{ReadsAtMostOnce};
 ghost use Rattle.ffs_layout.specs.Super.{IsUnreadable, found_of, may_read_copy, superblock_in};
 
 use crate::geometry::Geometry;
@@ -53,6 +54,7 @@ fn agree_at(
 }
 
 /// Reads the bytes of a superblock at a place of the image, in bytes.
+#[tactic(auto, unfolding(ffs_image::specs::Reads::ReadsAtMostOnce))]
 fn read_superblock_bytes<I: Image>(
     image: &mut I,
     at: u64,
@@ -62,6 +64,7 @@ fn read_superblock_bytes<I: Image>(
     ensures copied { ReadsSuperblockBytes (I.device image.old) (I.device image.new) at out.new
         result }
     ensures counted { I.reads image.new ≤ I.reads image.old + 1 }
+    ensures asks { ReadsAtMostOnce I.was_read at SUPERBLOCK_BYTES image.old image.new }
     ensures short { (I.device image.old).size < at + SUPERBLOCK_BYTES
         → I.reads image.new ≤ I.reads image.old }
 {
@@ -147,7 +150,7 @@ fn make_super(order: Order, bytes: &[u8; SUPERBLOCK_BYTES], geometry: Geometry) 
 
 /// Reads the copy of the superblock in the last group and compares it with the superblock's bytes,
 /// unless a sector was asked for.
-#[tactic(auto, unfolding(ffs_volume::specs::Disk::Outcome::agree, ffs_volume::specs::Disk::Outcome::copy_agrees))]
+#[tactic(auto, unfolding(ffs_image::specs::Reads::ReadsAtMostOnce, ffs_volume::specs::Disk::Outcome::agree, ffs_volume::specs::Disk::Outcome::copy_agrees))]
 fn check_copy<I: Image>(
     image: &mut I,
     sector: Option<u32>,
@@ -161,6 +164,8 @@ fn check_copy<I: Image>(
         result }
     ensures counted { I.reads image.new ≤ I.reads image.old + 1 }
     ensures unread { IfSome sector (λ _. I.reads image.new ≤ I.reads image.old) }
+    ensures asks { ReadsAtMostOnce I.was_read (copy_place geometry.now.layout) SUPERBLOCK_BYTES
+        image.old image.new }
 {
     if sector.is_some() {
         return Ok(());
@@ -181,7 +186,7 @@ fn check_copy<I: Image>(
 ///
 /// # Errors
 /// The first fault, in the order of `SuperFault`; an unreadable last copy comes after `Short`.
-#[tactic(auto, using(crate::proofs::Copying::default_sector))]
+#[tactic(auto, using(crate::proofs::Copying::default_sector), unfolding(ffs_image::specs::Reads::ReadsAtMostOnce))]
 pub fn read_super<I: Image>(image: &mut I, sector: Option<u32>) -> Result<Super, SuperFault>
     // An accepted volume lies within the image. What can't be read is a failed read, or lies past
     // the image's end.
@@ -202,6 +207,10 @@ pub fn read_super<I: Image>(image: &mut I, sector: Option<u32>) -> Result<Super,
     // An image that ends before the superblock does isn't read.
     ensures short { (I.device image.old).size < super_sector sector * DEV_BSIZE + SUPERBLOCK_BYTES
         → I.reads image.new ≤ I.reads image.old }
+
+    // Each read is of the bytes of a superblock.
+    ensures asks { ReadsSuperblocks I.was_read (super_sector sector * DEV_BSIZE) image.old
+        image.new }
 {
     let start = u64::from(sector.unwrap_or(SUPERBLOCK_SECTOR as u32)) * DEV_BSIZE;
     let mut bytes = [0; SUPERBLOCK_BYTES];

@@ -9,7 +9,7 @@ use Rattle.ffs_volume.specs.{Encodings.{ReplayCounts.replayed_runs, Notes.cut_in
 use Rattle.ffs_volume.specs.{Encodings.Notes.{first_noted, note_at}, Report.DirectoryReads.directory_runs}
 use Rattle.ffs_volume.specs.Directories.Calm.{is_right_shape, is_right_size}
 use Rattle.ffs_workspace.proofs.NoteLaws.{cut_is_noted, address_is_noted, address_is_whole, IsOneChunkAt}
-use Rattle.ffs_workspace.specs.{Tables.KeepsTable, declared.{table.Table.Table, workspace.Windows.Windows}}
+use Rattle.ffs_workspace.specs.{Tables.TableHolds, declared.{table.Table.Table, workspace.Windows.Windows}}
 use Rattle.ffs_names.specs.{OneChunk.one_chunk_at, Readers.IsReaderReady, Readings.chunks_in}
 use Rattle.ffs_names.proofs.{DirCosts.runs_are, DirLaws.{dir_is, dir_size, dir_seen, shape_seen}, OneChunks.entries_by}
 use Rattle.ffs_names.proofs.OneChunks.{one_chunk_class, one_chunk_is, shape_by}
@@ -55,6 +55,6 @@ read_by_cut v b d {i = i} {cut = cut} g dir inode noted is_cut =
 
 -- a reader stays ready where an inode was read, or couldn't be
 pub ready_read : {v : Layout} {d d' : Device} {w : Windows} {table : Table} {kinds notes : List ℕ} →
-    d'.contents ≡ d.contents → d'.size ≡ d.size → KeepsTable v d'.contents table →
+    d'.contents ≡ d.contents → d'.size ≡ d.size → TableHolds v d'.contents table →
     IsReaderReady v d w kinds notes → IsReaderReady v d' (record w { table = table }) kinds notes
 ready_read e size kept r = grind arith

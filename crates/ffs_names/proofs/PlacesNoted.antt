@@ -17,11 +17,11 @@ use Rattle.ffs_volume.specs.Directories.{Graph.reached, Climb.is_value, Parents.
 use Rattle.ffs_volume.specs.Directories.{Roles.{role_of, roled_chunk, roled_entries, roled_from}, Volumes.volume_of}
 use Rattle.ffs_volume.specs.{Directories.Volumes.volume_with, Blocks.Inodes.inodes_of}
 use Rattle.ffs_volume.specs.Encodings.Places.{entries_in_chunk, entries_in_part, is_due as is_to_be_read, name_in}
-use Rattle.ffs_volume.specs.Encodings.Places.{part_size, place_in, ArePlaces, AreNoted, IsNoted}
+use Rattle.ffs_volume.specs.Encodings.Places.{part_size, part_in, AreParts, AreNoted, IsNoted}
 use Rattle.ffs_walk.specs.declared.{blocks.Blocks.Blocks, window.Window.Window}
 use Rattle.ffs_workspace.proofs.{Leaving.counts_same, PlaceLaws.{any_naming-roled, name_in-after, name_in-among}}
 use Rattle.ffs_workspace.{proofs.PlaceLaws.name_in-roled, specs.{Holds.{HoldsClaims, HoldsSurvey}, Ready.CanRead}}
-use Rattle.ffs_workspace.{specs.Tables.KeepsTable, proofs.PartLaws.{begins_part, lies_in_part, BeginsPart}}
+use Rattle.ffs_workspace.{specs.Tables.TableHolds, proofs.PartLaws.{begins_part, lies_in_part, BeginsPart}}
 use Rattle.ffs_workspace.specs.declared.{table.Table.Table, workspace.Workspace.Workspace}
 use Rattle.ffs_names.{proofs.InParts.named_in_part, specs.{Fits.CursorFits, RunCursors.{last_place, StepsOn}}}
 use Rattle.ffs_names.specs.{declared.run_cursor.RunCursor.RunCursor, Noting.{belongs_to, is_found, BeginsNotes, IsParent}}
@@ -68,19 +68,19 @@ notes_end {parents = parents} {ws = ws} {p = p} {place = place} is = rw is (note
 -- ---- chunks of a directory
 -- of an inode with the parent p of which no place is noted, the entries to come have the first one of p
 abbrev pub AreToCome : (parents ws : List ℕ) (p : ℕ) (all rest : List RoledEntry) → Type 0
-AreToCome parents ws p all rest = (x : ℕ) → belongs_to parents p x ≡ true → place_in (slice_index ws x) ≡ 0 →
+AreToCome parents ws p all rest = (x : ℕ) → belongs_to parents p x ≡ true → part_in (slice_index ws x) ≡ 0 →
     name_in x all ≡ name_in x rest
 
 -- of an inode with the parent p that some entries of p name, a place is noted, or one of those to
 -- come names it
 abbrev pub AreWaiting : (v : Layout) (b parents first ws : List ℕ) (p : ℕ) (all rest : List RoledEntry) → Type 0
 AreWaiting v b parents first ws p all rest = (x : ℕ) → belongs_to parents p x ≡ true →
-    list_any (is_naming_entry x) all ≡ true → (place_in (slice_index first x) ≡ 0) ⊎ IsNoted v b first x →
-    IsNoted v b ws x ⊎ ((place_in (slice_index ws x) ≡ 0) × (list_any (is_naming_entry x) rest ≡ true))
+    list_any (is_naming_entry x) all ≡ true → (part_in (slice_index first x) ≡ 0) ⊎ IsNoted v b first x →
+    IsNoted v b ws x ⊎ ((part_in (slice_index ws x) ≡ 0) × (list_any (is_naming_entry x) rest ≡ true))
 
 -- a place that is right stays so where the word keeps it
 noted_still : {v : Layout} {b old new : List ℕ} {x : ℕ} →
-    place_in (slice_index new x) ≡ place_in (slice_index old x) → IsNoted v b old x → IsNoted v b new x
+    part_in (slice_index new x) ≡ part_in (slice_index old x) → IsNoted v b old x → IsNoted v b new x
 noted_still same h = record { part = h.part; place = same ∙ h.place; inside = h.inside; named = h.named }
 
 kept_place : (m y : Bool) (a b place j : ℕ) → a ≡ suc j → b ≡ (if m && ((a == 0) && y) then place else a) → b ≡ a
@@ -96,7 +96,7 @@ unnoted false y a b place some child e none = absurd (cc)
 -- an inode with the parent p of which no place is noted is named in no chunk of the current Run that
 -- was given
 abbrev pub AreUnnamed : Layout → (b parents ws : List ℕ) (p : ℕ) → RunCursor → Type 0
-AreUnnamed v b parents ws p cursor = (x : ℕ) → belongs_to parents p x ≡ true → place_in (slice_index ws x) ≡ 0 →
+AreUnnamed v b parents ws p cursor = (x : ℕ) → belongs_to parents p x ≡ true → part_in (slice_index ws x) ≡ 0 →
     (i : ℕ) → i < cursor.next →
     list_any (is_naming_entry x) (entries_in_chunk v.order (piece (cursor.place + 512 * i) 512 b)) ≡ false
 
@@ -126,7 +126,7 @@ module _ {v : Layout} {b parents old new : List ℕ} {p place at offset : ℕ} {
       ∙ name_in-roled x (offset == 0) false 0 0 (entries_of v.order bytes))
 
   -- the part of the image with the chunk: of an inode of which no place is noted it has the same name
-  in_part : (x : ℕ) → belongs_to parents p x ≡ true → place_in (slice_index old x) ≡ 0 →
+  in_part : (x : ℕ) → belongs_to parents p x ≡ true → part_in (slice_index old x) ≡ 0 →
       list_any (is_naming_entry x) (entries_in_chunk v.order bytes) ≡ true →
       (name_in x (entries_in_part v b (at / part_size v)) ≡ name_in x (entries_in_chunk v.order bytes))
       × (list_any (is_naming_entry x) (entries_in_part v b (at / part_size v)) ≡ true)
@@ -161,12 +161,12 @@ module _ {v : Layout} {b parents old new : List ℕ} {p place at offset : ℕ} {
   noted_chunk first all coming before x j h = one (is_found parents old p (entries_in_chunk v.order bytes) x) refl
     where
       one : (f : Bool) → is_found parents old p (entries_in_chunk v.order bytes) x ≡ f →
-          (place_in (slice_index first x) ≡ suc j) ⊎ (name_in x (entries_in_part v b j) ≡ name_in x all)
+          (part_in (slice_index first x) ≡ suc j) ⊎ (name_in x (entries_in_part v b j) ≡ name_in x all)
       one true e =
           let outer = and_parts (belongs_to parents p x) _ e in
-          let inner = and_parts (place_in (slice_index old x) == 0)
+          let inner = and_parts (part_in (slice_index old x) == 0)
           (list_any (is_naming_entry x) (entries_in_chunk v.order bytes)) outer.1 in
-          let none = eqb-true (place_in (slice_index old x)) 0 inner.0 in
+          let none = eqb-true (part_in (slice_index old x)) 0 inner.0 in
           let there : place ≡ suc j = sym (rw e at (k.noted.places x)) ∙ h in
           let same : j ≡ at / part_size v = omega (arith, there, k.number) in
           inr (ap (λ (n : ℕ). name_in x (entries_in_part v b n)) same
@@ -175,8 +175,8 @@ module _ {v : Layout} {b parents old new : List ℕ} {p place at offset : ℕ} {
       one false e = before x j (sym (rw e at (k.noted.places x)) ∙ h)
 
   -- an inode of which none is noted after it was not noted before, and the chunk doesn't name it
-  still_none : (x : ℕ) → belongs_to parents p x ≡ true → place_in (slice_index new x) ≡ 0 →
-      (place_in (slice_index old x) ≡ 0) × (list_any (is_naming_entry x) (entries_in_chunk v.order bytes) ≡ false)
+  still_none : (x : ℕ) → belongs_to parents p x ≡ true → part_in (slice_index new x) ≡ 0 →
+      (part_in (slice_index old x) ≡ 0) × (list_any (is_naming_entry x) (entries_in_chunk v.order bytes) ≡ false)
   still_none x child none =
       unnoted (belongs_to parents p x) (list_any (is_naming_entry x) (entries_in_chunk v.order bytes)) _ _ place
       (λ z. absurd (omega (arith, z, k.number))) child (k.noted.places x) none
@@ -199,7 +199,7 @@ module _ {v : Layout} {b parents old new : List ℕ} {p place at offset : ℕ} {
     ]
   ]
     where
-      was : (place_in (slice_index old x) ≡ 0) × (list_any (is_naming_entry x) (entries_in_chunk v.order bytes) ≡ false)
+      was : (part_in (slice_index old x) ≡ 0) × (list_any (is_naming_entry x) (entries_in_chunk v.order bytes) ≡ false)
       was = still_none x child none
 
       here : cursor'.place + 512 * i ≡ at →
@@ -218,14 +218,14 @@ module _ {v : Layout} {b parents old new : List ℕ} {p place at offset : ℕ} {
         | inr w ↦ go w.0 w.1 (list_any (is_naming_entry x) (entries_in_chunk v.order bytes)) refl
       ]
     where
-      placed : place_in (slice_index old x) ≡ 0 → (y : Bool) →
+      placed : part_in (slice_index old x) ≡ 0 → (y : Bool) →
           list_any (is_naming_entry x) (entries_in_chunk v.order bytes) ≡ y →
-          place_in (slice_index new x) ≡ (if y then place else 0)
-      placed none y e = rw (k.noted.places x, child, eq-eqb (place_in (slice_index old x)) 0 none, e, none) refl
+          part_in (slice_index new x) ≡ (if y then place else 0)
+      placed none y e = rw (k.noted.places x, child, eq-eqb (part_in (slice_index old x)) 0 none, e, none) refl
 
-      go : place_in (slice_index old x) ≡ 0 → list_any (is_naming_entry x) (flat_map roled_chunk rest) ≡ true →
+      go : part_in (slice_index old x) ≡ 0 → list_any (is_naming_entry x) (flat_map roled_chunk rest) ≡ true →
           (y : Bool) → list_any (is_naming_entry x) (entries_in_chunk v.order bytes) ≡ y →
-          IsNoted v b new x ⊎ ((place_in (slice_index new x) ≡ 0)
+          IsNoted v b new x ⊎ ((part_in (slice_index new x) ≡ 0)
           × (list_any (is_naming_entry x) (flat_map roled_chunk later) ≡ true))
       go none coming true e =
           inl (record {
@@ -240,7 +240,7 @@ module _ {v : Layout} {b parents old new : List ℕ} {p place at offset : ℕ} {
 pub all_noted : (v : Layout) (b parents first ws : List ℕ) (p : ℕ) (all : List RoledEntry) (rest : List Chunk) →
     rest ≡ [] → AreWaiting v b parents first ws p all (flat_map roled_chunk rest) → (x : ℕ) →
     belongs_to parents p x ≡ true → list_any (is_naming_entry x) all ≡ true →
-    (place_in (slice_index first x) ≡ 0) ⊎ IsNoted v b first x → IsNoted v b ws x
+    (part_in (slice_index first x) ≡ 0) ⊎ IsNoted v b first x → IsNoted v b ws x
 all_noted v b parents first ws p all rest none waiting x child named before = grind arith
 
 -- what is noted of other inodes, and what is to be read
@@ -262,7 +262,7 @@ parent_dir g x s other h = grind (arith, by_dir, cond-false)
 -- places are right after the directory p is noted
 pub places_after : {v : Layout} {b : List ℕ} {w : Workspace} {old new : List ℕ} {p : ℕ} → HoldsSurvey v b w →
     (is_dir (volume_of v b) p ≡ true → NotesRight v b (roled_entries (volume_of v b) p) old new) →
-    NotesChildren w.parents.items old new p → ArePlaces v b old → ArePlaces v b new
+    NotesChildren w.parents.items old new p → AreParts v b old → AreParts v b new
 places_after {v = v} {b = b} {w = w} {p = p} survey noted children right x q k there is =
     go (belongs_to w.parents.items p x) refl
   where
@@ -281,7 +281,7 @@ places_after {v = v} {b = b} {w = w} {p = p} survey noted children right x q k t
 
 -- a directory was read: no place changes
 pub places_same : (v : Layout) (b old new : List ℕ) →
-    ((x : ℕ) → place_in (slice_index new x) ≡ place_in (slice_index old x)) → ArePlaces v b old → ArePlaces v b new
+    ((x : ℕ) → part_in (slice_index new x) ≡ part_in (slice_index old x)) → AreParts v b old → AreParts v b new
 places_same v b old new same right x p k there is = right x p k (sym (same x) ∙ there) is
 
 -- a word that is set changes nothing at another number, and nothing that it has in common with the
@@ -300,7 +300,7 @@ set_same f ws i word low same x = elim (cases_eq x i) [
 -- what the survey found is held, with places that are right, and the claims are
 pub survey_noted : {v : Layout} {b : List ℕ} {old new : Workspace} →
     new ≡ record old { windows = new.windows; queue = new.queue } → HoldsSurvey v b old →
-    ArePlaces v b new.queue.items → HoldsSurvey v b new
+    AreParts v b new.queue.items → HoldsSurvey v b new
 survey_noted e h right = grind arith
 
 pub claims_noted : {v : Layout} {b : List ℕ} {old new : Workspace} →
@@ -309,7 +309,7 @@ claims_noted {v = v} {b = b} {old = old} e h = grind (arith, counts_same)
 
 -- the windows hold what the image gives after the table, windows of chunks and the queue were used
 pub ready_noted : {v : Layout} {d d'' : Device} {w : Workspace} {table : Table} {blocks : Blocks} {chunk : Window}
-    {queue : Vec ℕ Global} (d' : Device) → d'.contents ≡ d.contents → KeepsTable v d'.contents table → d''.contents ≡
+    {queue : Vec ℕ Global} (d' : Device) → d'.contents ≡ d.contents → TableHolds v d'.contents table → d''.contents ≡
     d'.contents → CanReadChunks v d'' blocks chunk → vec_len queue ≡ vec_len w.queue → CanRead v d w → CanRead v d''
     (record w { queue = queue; windows = record w.windows { table = table; blocks = blocks; current = chunk } })
 ready_noted d' first kept second can long r = grind arith
@@ -370,7 +370,7 @@ level_under g x k h = go (first_below (λ s. level_edge g k s x) g.count) refl
 -- a place is noted of each directory that is reached and isn't the root, or its parent is to be read
 abbrev pub AreComing : Layout → List ℕ → (words : List ℕ) → Type 0
 AreComing v b words = (x p : ℕ) → IsUnder (graph_of (volume_of v b)) x p →
-    IsNoted v b words x ⊎ ((place_in (slice_index words x) ≡ 0) × (is_to_be_read (slice_index words p) ≡ true))
+    IsNoted v b words x ⊎ ((part_in (slice_index words x) ≡ 0) × (is_to_be_read (slice_index words p) ≡ true))
 
 -- the number of a directory
 dir_number : (v : Layout) (b : List ℕ) (x : ℕ) → is_dir (volume_of v b) x ≡ true → (2 ≤ x) × (x < inodes_of v)
@@ -383,7 +383,7 @@ coming_first {v = v} {b = b} {w = w} {words = words} long begins survey x p unde
 
 -- after the directory d, which was to be read, is noted
 pub coming_noted : {v : Layout} {b : List ℕ} {w : Workspace} {mid new : List ℕ} {d : ℕ} (old : List ℕ) → HoldsSurvey v b
-    w → ((x : ℕ) → place_in (slice_index mid x) ≡ place_in (slice_index old x)) → ((x : ℕ) → x ≢ d
+    w → ((x : ℕ) → part_in (slice_index mid x) ≡ part_in (slice_index old x)) → ((x : ℕ) → x ≢ d
     → is_to_be_read (slice_index mid x) ≡ is_to_be_read (slice_index old x)) → (is_dir (volume_of v b) d ≡ true
     → NotesEach v b (belongs_to w.parents.items d) (roled_entries (volume_of v b) d) mid new) → NotesChildren w.parents.items mid new d →
     AreComing v b old → AreComing v b new
@@ -393,11 +393,11 @@ coming_noted {v = v} {b = b} {w = w} {mid = mid} {new = new} {d = d} old survey 
     up : slice_index w.parents.items x ≡ p
     up = survey.tree.parents x ∙ ap (λ (o : Option ℕ). unwrap_or o 0) under.up
 
-    before : IsNoted v b mid x ⊎ ((place_in (slice_index mid x) ≡ 0) × (is_to_be_read (slice_index old p) ≡ true))
+    before : IsNoted v b mid x ⊎ ((part_in (slice_index mid x) ≡ 0) × (is_to_be_read (slice_index old p) ≡ true))
     before = elim (coming x p under) [ inl is ↦ inl (noted_still (same x) is) | inr w ↦ inr (same x ∙ w.0, w.1) ]
 
     go : (p ≡ d) ⊎ (p ≢ d) →
-        IsNoted v b new x ⊎ ((place_in (slice_index new x) ≡ 0) × (is_to_be_read (slice_index new p) ≡ true))
+        IsNoted v b new x ⊎ ((part_in (slice_index new x) ≡ 0) × (is_to_be_read (slice_index new p) ≡ true))
     go (inl e) =
         let link = and_parts (is_dir (volume_of v b) p) (list_any (is_naming_entry x) (roled_entries (volume_of v b) p))
         (and_parts (is_dir (volume_of v b) x) (is_naming_dir (graph_of (volume_of v b)) p x) under.link).1 in

@@ -10,8 +10,8 @@ use Rattle.ffs_image.specs.declared.image.Image.{Ghosts}
 use Rattle.ffs_volume.specs.declared.{constants.TheConstants.ROOTINO, Layout.Layout}
 use Rattle.ffs_volume.specs.Directories.{Graph.is_naming_entry, Roles.{RoledEntry, roled_entries}, Volumes.volume_of}
 use Rattle.ffs_volume.specs.{Disk.Search.some_below, Encodings.Lists.bool_at, Blocks.Inodes.inodes_of}
-use Rattle.ffs_volume.specs.{Report.DirectoryReads.{costs_below, noted_cost}, Encodings.Places.entries_in_part}
-use Rattle.ffs_volume.specs.Encodings.Places.{is_due as is_to_be_read, name_in, place_in, AreNoted, IsNoted}
+use Rattle.ffs_volume.specs.{Report.DirectoryReads.{costs_below, sweep_cost}, Encodings.Places.entries_in_part}
+use Rattle.ffs_volume.specs.Encodings.Places.{is_due as is_to_be_read, name_in, part_in, AreNoted, IsNoted}
 use Rattle.ffs_workspace.specs.{Holds.HoldsSurvey, Ready.CanRead, declared.workspace.Windows.Windows}
 use Rattle.ffs_workspace.specs.declared.workspace.Workspace.{Workspace}
 use Rattle.ffs_names.specs.{Costs.{to_read, HoldsReading}, Windows.CanReadChunks}
@@ -58,7 +58,7 @@ belongs_to parents p x = (slice_index parents x == p) && not (x == ROOTINO)
 -- p is the parent of x, of which no place is noted yet, and some entries have a plain one that names x
 abbrev pub is_found : (parents words : List ℕ) (p : ℕ) → List RoledEntry → (x : ℕ) → Bool
 is_found parents words p es x =
-    belongs_to parents p x && ((place_in (slice_index words x) == 0) && list_any (is_naming_entry x) es)
+    belongs_to parents p x && ((part_in (slice_index words x) == 0) && list_any (is_naming_entry x) es)
 
 -- what is to be read stays so
 abbrev pub KeepsToRead : (old new : List ℕ) → Type 0
@@ -66,8 +66,8 @@ KeepsToRead old new = (x : ℕ) → is_to_be_read (slice_index new x) ≡ is_to_
 
 -- the place of a chunk of p with these entries is noted of each inode that is found in it, and of no other
 pub record NotesChunk (parents old new : List ℕ) (p place : ℕ) (es : List RoledEntry) : Type 0 where
-  pub places : (x : ℕ) → place_in (slice_index new x)
-      ≡ (if is_found parents old p es x then place else place_in (slice_index old x))
+  pub places : (x : ℕ) → part_in (slice_index new x)
+      ≡ (if is_found parents old p es x then place else part_in (slice_index old x))
   pub to_read : KeepsToRead old new
 
 -- it is noted so, in as many words
@@ -78,17 +78,17 @@ pub record NotesInWords (parents old new : Vec ℕ Global) (p place : ℕ) (es :
 -- places are noted by the entries es of a directory: of each place that is noted anew the first plain entry of
 -- the part that names the inode has the name of the first one of es
 abbrev pub NotesRight : (v : Layout) (b : List ℕ) (es : List RoledEntry) (old new : List ℕ) → Type 0
-NotesRight v b es old new = (x k : ℕ) → place_in (slice_index new x) ≡ suc k → (place_in (slice_index old x) ≡ suc k)
+NotesRight v b es old new = (x k : ℕ) → part_in (slice_index new x) ≡ suc k → (part_in (slice_index old x) ≡ suc k)
     ⊎ (name_in x (entries_in_part v b k) ≡ name_in x es)
 
 -- a place is noted of each child that a plain one of these entries names, if none or a right one was noted before
 abbrev pub NotesEach : (v : Layout) (b : List ℕ) (child : ℕ → Bool) (es : List RoledEntry) (old new : List ℕ) → Type 0
 NotesEach v b child es old new = (x : ℕ) → child x ≡ true → list_any (is_naming_entry x) es ≡ true →
-    (place_in (slice_index old x) ≡ 0) ⊎ IsNoted v b old x → IsNoted v b new x
+    (part_in (slice_index old x) ≡ 0) ⊎ IsNoted v b old x → IsNoted v b new x
 
 -- no place of an inode with another parent is noted, and what is to be read stays so
 pub record NotesChildren (parents old new : List ℕ) (p : ℕ) : Type 0 where
-  pub others : (x : ℕ) → belongs_to parents p x ≡ false → place_in (slice_index new x) ≡ place_in (slice_index old x)
+  pub others : (x : ℕ) → belongs_to parents p x ≡ false → part_in (slice_index new x) ≡ part_in (slice_index old x)
   pub to_read : KeepsToRead old new
 
 -- places of the entries of the directory p are noted, those of all where no read failed, and the image was read
@@ -98,7 +98,7 @@ pub record NotesDirectory {T : Type 0} (v : Layout) (b : List ℕ) (p : ℕ) (ol
   pub right : NotesRight v b (roled_entries (volume_of v b) p) old.workspace.queue.items new.workspace.queue.items
   pub each : OnOk result (NotesEach v b (belongs_to old.workspace.parents.items p) (roled_entries (volume_of v b) p)
       old.workspace.queue.items new.workspace.queue.items)
-  pub counted : new.reads ≤ old.reads + noted_cost v b p
+  pub counted : new.reads ≤ old.reads + sweep_cost v b p
 
 -- p is the parent of an inode with a number greater than the root's
 pub record IsParent (parents : List ℕ) (p : ℕ) : Type 0 where
@@ -112,14 +112,14 @@ abbrev pub has_child : (parents : List ℕ) → (d : ℕ) → Bool
 has_child parents d = some_below (λ x. nat_lt ROOTINO x && (slice_index parents x == d)) (length parents)
 
 -- at most how many reads parents take in a sweep
-abbrev pub parents_costs : Layout → List ℕ → (parents : List ℕ) → ℕ
-parents_costs v b parents = costs_below (has_child parents) (noted_cost v b) (inodes_of v)
+abbrev pub parents_sweep_cost : Layout → List ℕ → (parents : List ℕ) → ℕ
+parents_sweep_cost v b parents = costs_below (has_child parents) (sweep_cost v b) (inodes_of v)
 
 -- a word for each inode: no place is noted, no number below the root's is to be read, the parent of each
 -- reached inode with a number greater than the root's is to be read, and only parents are
 pub record BeginsNotes (reached : List Bool) (parents : List ℕ) (words : Vec ℕ Global) : Type 0 where
   pub long : vec_len words ≡ length reached
-  pub none : (x : ℕ) → place_in (slice_index words.items x) ≡ 0
+  pub none : (x : ℕ) → part_in (slice_index words.items x) ≡ 0
   pub low : (x : ℕ) → x < ROOTINO → is_to_be_read (slice_index words.items x) ≡ false
   pub to_read : (x : ℕ) → ROOTINO < x → x < length reached → bool_at reached x ≡ true → ROOTINO ≤ slice_index parents x
       → slice_index parents x < length reached → is_to_be_read (slice_index words.items (slice_index parents x)) ≡ true

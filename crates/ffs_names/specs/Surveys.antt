@@ -7,7 +7,7 @@ use Rattle.ffs_survey.specs.Calm.{AreCalm}
 use Rattle.ffs_volume.specs.{Directories.Calm.is_right_directory, Encodings.Lists.bool_at}
 use Rattle.ffs_workspace.specs.{declared.workspace.Workspace.Workspace, Leaves.LeavesBlockCheck, Ready.IsReady}
 use Rattle.ffs_workspace.specs.Holds.{HoldsClaims, HoldsReferences, HoldsSurvey}
-use Rattle.ffs_volume.specs.Report.DirectoryReads.{noted_costs}
+use Rattle.ffs_volume.specs.Report.DirectoryReads.{sweep_costs}
 use Rattle.ffs_names.specs.{CalmDirs.FlagsEachCalm}
 
 -- what a survey leaves: the workspace is ready for the next call, `queue` is zero, so that it notes no
@@ -49,4 +49,4 @@ pub record SurveysAll {T : Type 0} (v : Layout) (b : List ℕ) (old new : WorkMo
     : Type 0 where
   pub found : OnOk result (IsSurveyed v b new.workspace)
   pub flags : OnOk result (FlagsEachCalm v b new.workspace)
-  pub counted : new.reads ≤ old.reads + noted_costs v b
+  pub counted : new.reads ≤ old.reads + sweep_costs v b

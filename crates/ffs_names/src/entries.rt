@@ -1,7 +1,7 @@
 //! The entries of a directory.
 
 ghost use Rattle.std.specs.Prelude.{◌≡◌, ◌+◌, ◌-◌, ◌*◌, ◌/◌, ◌≤◌, ◌^◌, ℕ, List, true, false, IfErr, IfOk, MatchBool, OnOk, OnErr, if◌then◌else◌};
-ghost use Rattle.ffs_image.specs.Device.{ForContents};
+ghost use Rattle.ffs_image.specs.{Device.ForContents, Reads.ReadsAtMostOnce};
 ghost use Rattle.ffs_names.specs.{OneChunk.{has_chunk_at, one_chunk_at as one_chunk}, Windows.{CanWalkDir, CanReadChunks}};
 ghost use Rattle.ffs_volume.specs.{Directories.Calm.is_right_size, declared.constants.TheConstants.DIRBLKSIZ};
 ghost use Rattle.ffs_volume.specs.declared.constants.TheConstants.{DEV_BSIZE, DIRENT_HEADER};
@@ -12,7 +12,7 @@ ghost use Rattle.ffs_walk.specs.declared.window.Window.{Window};
 
 use crate::chunks::Chunks;
 use crate::gap::gap_of;
-use crate::reader::one_chunk_at;
+use crate::one_chunk::one_chunk_at;
 use crate::role::role_of;
 use ffs_image::{Image, ImageFault};
 use ffs_layout::{Geometry, entry_at};
@@ -134,6 +134,7 @@ impl Entries {
     /// # Errors
     /// A read of the image that failed. The reading is stopped then, as in `next`.
     #[inline(always)]
+    #[tactic(auto, unfolding(ffs_image::specs::Reads::ReadsAtMostOnce))]
     pub fn restart_at<I: Image>(&mut self, image: &mut I, address: u32) -> Result<(), ImageFault>
         requires { self.old.chunks.walk.geometry.layout.size
             * self.old.chunks.walk.geometry.layout.fsize ≤ (I.device image.old).size }
@@ -150,6 +151,8 @@ impl Entries {
         ensures read { ReadAfter (I.device image.old) (I.device image.new) result }
         ensures sector { IfErr result (λ fault. fault.sector
             ≡ address * self.old.chunks.walk.geometry.layout.fsize / DEV_BSIZE) }
+        ensures asks { ReadsAtMostOnce I.was_read
+            (address * self.old.chunks.walk.geometry.layout.fsize) DIRBLKSIZ image.old image.new }
         // Where its chunk is read, none is left to `chunks`.
         ensures chunks { MatchBool (has_chunk_at self.old.chunks.walk.geometry.layout address)
             (EndsChunks self.old self.new)

@@ -16,6 +16,7 @@
 //! - `run_cursor` gives the chunks of one Run, and `chunks` those of a directory.
 //! - `gap` looks for a hole among them.
 //! - `role` says what part an entry has.
+//! - `one_chunk` makes the inode of a directory whose only chunk is noted.
 //! - `chunk_entries` gives the entries of a chunk, and `entries` those of a directory.
 //! - `reader` is what a survey goes over: the directories of an image.
 //! - `surveying` is the survey: `ffs_survey::survey` with that reader and the workspace's lists.
@@ -28,6 +29,7 @@ mod chunk_entries;
 mod chunks;
 mod entries;
 mod gap;
+mod one_chunk;
 mod places;
 mod reader;
 mod role;

@@ -7,18 +7,18 @@ ghost use Rattle.ffs_image.specs.{Device.ForContents, Known.ForBytes};
 ghost use Rattle.ffs_layout.specs.Entry.{entry_value};
 ghost use Rattle.ffs_volume.specs.Directories.{Entries.entries_of, Roles.{is_dir, role_of as role_in, roled_chunk}};
 ghost use Rattle.ffs_volume.specs.{Directories.{Roles.roled_from, Volumes.volume_of}, Encodings.Notes.note_at};
-ghost use Rattle.ffs_volume.specs.Report.DirectoryReads.{noted_cost};
+ghost use Rattle.ffs_volume.specs.Report.DirectoryReads.{sweep_cost};
 ghost use Rattle.ffs_workspace.specs.{Found.{WithClaims, WithSurvey}, Holds.HoldsSurvey, Ready.CanRead};
 ghost use Rattle.ffs_workspace.specs.Tables.{CanReadInode, TableAfter};
 ghost use Rattle.ffs_names.specs.Noting.{chunk_noting, belongs_to, BeginsNotes, CanNote, CanNoteChunks};
 ghost use Rattle.ffs_names.specs.Noting.{CanNoteDirectory, HoldsPlaces, NotingDirectoryLeaves, NotingChunksLeaves};
 ghost use Rattle.ffs_names.specs.Noting.{NotingLeaves, NotesDirectory, NotesEach, NotesInWords, NotesRight};
-ghost use Rattle.ffs_names.specs.Noting.{parents_costs};
+ghost use Rattle.ffs_names.specs.Noting.{parents_sweep_cost};
 ghost use Rattle.ffs_names.specs.{Costs.{BeginsChunks, BeginsReads, SweepsOnce}, Readings.rest};
 
 use crate::chunk_entries::ChunkEntries;
 use crate::chunks::Chunks;
-use crate::reader::one_chunk_at;
+use crate::one_chunk::one_chunk_at;
 use crate::role::role_of;
 use ffs_image::{Image, ImageFault, LimitedImage};
 use ffs_layout::{Entry, Geometry};
@@ -26,8 +26,8 @@ use ffs_memory::FilledList;
 use ffs_volume::constants::{DIRBLKSIZ, ROOTINO};
 use ffs_volume::{Class, Order, Role};
 use ffs_workspace::{
-    Table, Windows, Workspace, address_in, cut_in, is_due, noted_part, place_of, sweep_reads,
-    with_due, without_due,
+    Table, Windows, Workspace, address_in, cut_in, is_due, noted_part, sweep_reads, with_due,
+    without_due, word_of_part,
 };
 
 /// Whether a directory is the parent of an inode other than the root, which has no parent entry.
@@ -122,8 +122,8 @@ fn note_chunks<I: Image>(
         &mut windows.current,
         &mut chunk,
     )? {
-        let place = place_of(&chunks.walk.geometry, chunks.last_place());
-        note_chunk(order, &chunk, dir, place, parents, words);
+        let word = word_of_part(&chunks.walk.geometry, chunks.last_place());
+        note_chunk(order, &chunk, dir, word, parents, words);
     }
     Ok(())
 }
@@ -145,7 +145,7 @@ fn chunks_of<I: Image>(
         → is_dir (volume_of geometry.now.layout b) dir ≡ true → MatchResult result
         (BeginsChunks geometry.now.layout b dir (I.reads image.old) (I.reads image.new))
         (λ _. I.reads image.new
-        ≤ I.reads image.old + noted_cost geometry.now.layout b dir)) }
+        ≤ I.reads image.old + sweep_cost geometry.now.layout b dir)) }
     ensures begins { IfOk result (BeginsReads geometry.now) }
     ensures leaves { TableAfter geometry.now.layout (I.device image.old) (I.device image.new)
         table.new result }
@@ -230,7 +230,7 @@ fn note_places_unlimited<I: Image>(
     ensures parents { ForBytes
         (WithSurvey geometry.now.layout (I.device image.old) workspace.old)
         (λ bytes. I.reads image.new ≤ I.reads image.old
-        + parents_costs geometry.now.layout bytes workspace.old.parents.items) }
+        + parents_sweep_cost geometry.now.layout bytes workspace.old.parents.items) }
     ensures leaves { NotingLeaves geometry.now.layout (work_moment I.Image image.old workspace.old)
         (work_moment I.Image image.new workspace.new) result }
 {
@@ -247,7 +247,7 @@ fn note_places_unlimited<I: Image>(
 }
 
 /// Notes in `queue`, of each directory that is reached from the root, where its parent entry is in
-/// the image (`ffs_workspace::place_of`): then a path takes one read for each of its directories.
+/// the image (`ffs_workspace::word_of_part`): then a path takes one read for each of its directories.
 /// Each of their parents is read once. Afterwards no parent entry is due. The windows change too.
 ///
 /// # Errors
@@ -273,7 +273,7 @@ pub fn note_places<I: Image>(
     ensures parents { ForBytes
         (WithSurvey geometry.now.layout (I.device image.old) workspace.old)
         (λ bytes. I.reads image.new ≤ I.reads image.old
-        + parents_costs geometry.now.layout bytes workspace.old.parents.items) }
+        + parents_sweep_cost geometry.now.layout bytes workspace.old.parents.items) }
     ensures leaves { NotingLeaves geometry.now.layout (work_moment I.Image image.old workspace.old)
         (work_moment I.Image image.new workspace.new) result }
 {

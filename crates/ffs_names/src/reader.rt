@@ -1,36 +1,14 @@
 //! The reader of directories that a survey of a volume goes over.
 
 ghost use Rattle.std.specs.Prelude.{◌≡◌};
-ghost use Rattle.ffs_names.specs.OneChunk.{one_chunk_at};
 
 use crate::entries::Entries;
 use ffs_image::{Image, ImageFault};
 use ffs_layout::Geometry;
 use ffs_memory::FilledList;
 use ffs_survey::{Directories, EntryHead, is_dir};
-use ffs_volume::constants::{DIRBLKSIZ, DT_DIR};
-use ffs_volume::{Class, Inode};
+use ffs_volume::Class;
 use ffs_workspace::{Windows, address_in, cut_in};
-
-/// The inode of a directory of one chunk at an address, as far as a reading of its entries asks
-/// for it.
-#[inline(always)]
-pub(crate) fn one_chunk_at(address: u32) -> Inode
-    ensures { result ≡ one_chunk_at address }
-{
-    let mut addresses = [0; 15];
-    addresses[0] = address;
-    Inode {
-        // Its type is above the twelve bits of its permissions (inode(5)).
-        mode: u16::from(DT_DIR) << 12,
-        nlink: 0,
-        size: DIRBLKSIZ as u64,
-        mtime: 0,
-        addresses,
-        blocks: 0,
-        uid: 0,
-    }
-}
 
 /// Reads the directories of a volume: the inodes whose kind is a directory's, by their kept steps.
 #[derive(Drop)]
@@ -54,7 +32,7 @@ impl<I: Image> Directories for DirectoryReader<'_, I> {
     ghost use Rattle.ffs_names.specs.Shapes.{has_right_shape, HasEnded};
     ghost use Rattle.ffs_names.specs.Entering.{to_come, most_to_come, last_name};
     ghost use Rattle.ffs_names.specs.Costs.{reads_for_entries, HoldsEntries};
-    ghost use Rattle.ffs_volume.specs.Report.DirectoryReads.{noted_cost};
+    ghost use Rattle.ffs_volume.specs.Report.DirectoryReads.{sweep_cost};
 
     ghost Base = { ReaderBase };
 
@@ -80,7 +58,7 @@ impl<I: Image> Directories for DirectoryReader<'_, I> {
 
     ghost reads = { λ t. I.reads t.image.now };
 
-    ghost cost = { λ t b dir. noted_cost t.layout b dir };
+    ghost cost = { λ t b dir. sweep_cost t.layout b dir };
 
     ghost to_read = { λ t b. reads_for_entries b t.entries };
 

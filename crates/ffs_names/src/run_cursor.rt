@@ -1,7 +1,7 @@
 //! The chunks of one Run of a directory.
 
 ghost use Rattle.std.specs.Prelude.{◌≡◌, ◌+◌, ◌*◌, ◌≤◌, ◌^◌, OnErr, OnOk};
-ghost use Rattle.ffs_image.specs.Device.{ForContents};
+ghost use Rattle.ffs_image.specs.{Device.ForContents, Reads.ReadsAtMostOnce};
 ghost use Rattle.ffs_volume.specs.{Disk.Numbers.piece, declared.constants.TheConstants.DIRBLKSIZ};
 
 use ffs_image::{Image, ImageFault};
@@ -95,6 +95,8 @@ impl RunCursor {
         ensures unread { OnErr result (chunk.new ≡ chunk.old) }
         ensures leaves { LeavesRun self.now (run_reading I.Image image.old window.old)
             (run_reading I.Image image.new window.new) result }
+        ensures asks { ReadsAtMostOnce I.was_read self.now.place self.now.length image.old
+            image.new }
     {
         window.fill(image, self.place, self.length as usize)?;
         let at = DIRBLKSIZ * self.next as usize;

@@ -103,7 +103,8 @@ pub fn survey<I: Image>(
     let mut limited = LimitedImage::new(image, sweep_reads(geometry));
     let surveyed = survey_unlimited(geometry, &mut limited, workspace);
     if limited.is_spent() {
-        // See `LimitedImage`: bytes that stay never ask for so many reads.
+        // See `LimitedImage`: bytes that stay never ask for so many reads. The lists hold what was
+        // found so far, and the survey doesn't count as made.
         return Ok(());
     }
     surveyed

@@ -12,7 +12,8 @@ use Rattle.ffs_volume.specs.Directories.{Parents.graph_of, Paths.dir_path, Pathn
 use Rattle.ffs_volume.specs.Directories.PathnameCheck.{lines_of_entries, dir_header_lines, header_defects, header_lines}
 use Rattle.ffs_volume.specs.Directories.{Roles.{Volume, is_dir, roled_entries, start_entry}, Volumes.volume_of}
 use Rattle.ffs_volume.specs.{Directories.Volumes.volume_with, Messages.Kinds.{Message, TreeMessage, of_tree}}
-use Rattle.ffs_report.{proofs.Reporting.{reports_knowing, reports_same}, specs.{Known.ForBytes, Progress.Progress}}
+use Rattle.ffs_report.{proofs.Reporting.{reports_knowing, reports_same}, specs.Progress.Progress}
+use Rattle.ffs_image.specs.Known.{ForBytes}
 use Rattle.ffs_report.specs.{PhaseOutcome.{ImageAfter, SaidOf, PhaseReports}, declared.fault.RunFault.RunFault}
 use Rattle.ffs_report.specs.declared.fault.RunFault.TheVariants.{Read, Out}
 use Rattle.ffs_image.specs.Device.{Device, Faulted}

@@ -15,7 +15,7 @@ use Rattle.ffs_workspace.{specs.{Holds.{HoldsReferences, HoldsSurvey}, Leaves.Le
 use Rattle.ffs_workspace.proofs.{KindLaws.suspect_is, Leaving.{claims_left, survey_left, leaves_all}}
 use Rattle.ffs_pathnames.specs.{Gathers.passed_of, DirectoryContext.DirectoryContext, Before.{IsNonePassed, IsBefore}}
 use Rattle.ffs_pathnames.specs.{Before.{IsBeforeNoted, needs_check, root_reported}, Silent.IsSilentDirectory}
-use Rattle.ffs_pathnames.{specs.{PassedRight.RemembersBefore, Stamps.KeepPlaces}, proofs.Begun.directory_is}
+use Rattle.ffs_pathnames.{specs.{PassedRight.RemembersBefore, Stamps.KeepParts}, proofs.Begun.directory_is}
 use Rattle.ffs_pathnames.proofs.{Begun.quiet_parts, StampLaws.{noted_kept, stamps_length}, BetweenLaws.other_next}
 use Rattle.ffs_pathnames.proofs.{BetweenLaws.{silent_next, silent_quiet}, EmptyLaws.{looked_is, looked_dir, names_none}}
 use Rattle.ffs_survey.specs.Survey.{suspect_at}
@@ -65,7 +65,7 @@ before_next {v = v} {b = b} e s r k = record {
 
 -- the same, where places are noted
 pub noted_next : {v : Layout} {contents contents' : Option (List ℕ)} {old new : Workspace} {d d' : ℕ} {b : List ℕ} →
-    contents' ≡ contents → LeavesSurvey old new → KeepPlaces old.queue.items new.queue.items →
+    contents' ≡ contents → LeavesSurvey old new → KeepParts old.queue.items new.queue.items →
     RemembersBefore (volume_of v b) d' (passed_of new) → IsBeforeNoted v contents old d b →
     IsBeforeNoted v contents' new d' b
 noted_next {v = v} {b = b} e s keep r k = record {

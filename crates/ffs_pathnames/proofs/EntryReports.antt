@@ -3,7 +3,8 @@ use Rattle.std.proofs.Common.{◌≡◌, ◌≤◌, ap, append-nil, ℕ, IsTrue,
 use Rattle.ffs_image.specs.{Device.Device, declared.image.ImageFault.ImageFault}
 use Rattle.ffs_volume.specs.{declared.Layout.Layout, Directories.{Roles.{RoledEntry, Volume}, Volumes.volume_of}}
 use Rattle.ffs_volume.specs.{Messages.Kinds.{TreeMessage, of_tree}, Report.Reads.line_reads}
-use Rattle.ffs_report.{specs.{Known.ForBytes, Progress.{Progress, Said, Stopped}}, proofs.Paying.paid_reads}
+use Rattle.ffs_report.{specs.Progress.{Progress, Said, Stopped}, proofs.Paying.paid_reads}
+use Rattle.ffs_image.specs.Known.{ForBytes}
 use Rattle.ffs_report.proofs.{Paying.{paid_says, paid_stops}, Reporting.{reads_first, says_all, stops_all}}
 use Rattle.ffs_report.specs.declared.fault.RunFault.{RunFault, TheVariants.{Read, Out}}
 use Rattle.ffs_workspace.specs.declared.workspace.Workspace.{Workspace}

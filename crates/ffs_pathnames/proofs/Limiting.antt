@@ -6,7 +6,7 @@ use Rattle.ffs_image.specs.{Device.Device, declared.image.ImageFault.ImageFault,
 use Rattle.ffs_image.{specs.Limited.limited_device, proofs.Limits.{ServedBy, read_over, served}}
 use Rattle.ffs_volume.specs.declared.Layout.{Layout}
 use Rattle.ffs_workspace.{specs.{declared.workspace.Workspace.Workspace, Ready.CanRead}, proofs.Readiness.can_read_same}
-use Rattle.ffs_paths.specs.{Reads.{KnowsPlaces, OnlyReads, ReadsAtMost}, KeptParents.KeepsParent}
+use Rattle.ffs_paths.specs.{Reads.{KnowsPlaces, OnlyReads, ReadsAtMost}, KeptParents.HoldsKeptParent}
 use Rattle.ffs_paths.specs.KeptParents.{KeptMoment, PathLeaves, SparesReads}
 use Rattle.ffs_paths.specs.declared.kept_parent.KeptParent.{KeptParent}
 use Rattle.ffs_pathnames.specs.{DirectoryContext.DirectoryContext, Ready.LimitedPathLeaves}
@@ -26,7 +26,7 @@ pub record IsGathered {T : Type 0} (n : ℕ) (v : Layout) (d d' : Device) (name_
   pub same_image : name_lent ≡ name
   pub all : (b : List ℕ) (x : ℕ) → DirectoryContext v d.contents w x b → spent ≡ true → ⊥
   pub leaves : spent ≡ false → LimitedPathLeaves v n (path_at d count w) (path_at d' count' w') s r
-  pub forgets : spent ≡ true → (x : T) (s' : KeptParent) → KeepsParent v d'.contents w' s'
+  pub forgets : spent ≡ true → (x : T) (s' : KeptParent) → HoldsKeptParent v d'.contents w' s'
       → LimitedPathLeaves v n (path_at d count w) (path_at d' count' w') s' (Ok x)
 
 -- the image below gives what the one above does

@@ -4,10 +4,10 @@ use Rattle.std.proofs.Common.{slice_index, slice_set, not, ◌&&◌, ◌==◌, �
 use Rattle.std.{proofs.{Common.lt-ltb, lemmas.Bool.{and_from, and_parts}}, specs.declared.alloc.Global.Global}
 use Rattle.std.specs.declared.vec.Vec.{Vec}
 use Rattle.ffs_workspace.specs.{Leaves.LeavesSurvey, declared.workspace.Workspace.Workspace}
-use Rattle.ffs_volume.specs.{Encodings.Places.{is_due, place_in, AreNoted}, declared.{Layout.Layout, Role.Role}}
+use Rattle.ffs_volume.specs.{Encodings.Places.{is_due, part_in, AreNoted}, declared.{Layout.Layout, Role.Role}}
 use Rattle.ffs_volume.specs.{Encodings.Kinds.is_dir_kind, Directories.{Entries.Entry, Roles.{Volume, is_plain}}}
 use Rattle.ffs_pathnames.specs.{Examines.LeavesAllButDue, declared.inodes.Inodes.Inodes, Sees.{Sees, passed_in}}
-use Rattle.ffs_pathnames.specs.{Sees.stamps_in, Stamps.{stamp_of, stamps_of, KeepPlaces, KeepsWords}}
+use Rattle.ffs_pathnames.specs.{Sees.stamps_in, Stamps.{stamp_of, stamps_of, KeepParts, KeepsWords}}
 use Rattle.ffs_pathnames.specs.PassedNames.{after_look, after_roled}
 use Rattle.ffs_survey.specs.Survey.{suspect_at}
 
@@ -45,7 +45,7 @@ unstamped ps ws ws' x word set due = rw (set, stamps_set ps ws x word, due) refl
 pub none_stamped : (ps ws : List ℕ) (x : ℕ) → is_due (slice_index ws x) ≡ false → slice_index (stamps_of ps ws) x ≡ 0
 none_stamped ps ws x h = rw (stamp_at ps ws x, h) refl
 
-pub keep_more : (a b c : List ℕ) → KeepPlaces a b → KeepPlaces b c → KeepPlaces a c
+pub keep_more : (a b c : List ℕ) → KeepParts a b → KeepParts b c → KeepParts a c
 keep_more a b c p q x = q x ∙ p x
 
 pub words_more : {a b c : Vec ℕ Global} → KeepsWords a b → KeepsWords b c → KeepsWords a c
@@ -53,22 +53,22 @@ words_more p q = record { places = λ x. q.places x ∙ p.places x; long = q.lon
 
 -- where the windows alone have changed
 pub windows_keep : (old new : Workspace) → new ≡ record old { windows = new.windows } →
-    KeepPlaces old.queue.items new.queue.items
-windows_keep old new e x = ap (λ (w : Workspace). place_in (slice_index w.queue.items x)) e
+    KeepParts old.queue.items new.queue.items
+windows_keep old new e x = ap (λ (w : Workspace). part_in (slice_index w.queue.items x)) e
 
 -- a place is noted of the same directories
-pub noted_kept : (v : Layout) (b : List ℕ) (old new : List ℕ) → KeepPlaces old new → AreNoted v b old → AreNoted v b new
+pub noted_kept : (v : Layout) (b : List ℕ) (old new : List ℕ) → KeepParts old new → AreNoted v b old → AreNoted v b new
 noted_kept v b old new keep noted x k reached = grind arith
 
 -- where the flags, the words and the windows alone have changed
 pub names_leave : (old new : Workspace) →
     new ≡ record old { flags = new.flags; queue = new.queue; windows = new.windows } →
-    KeepPlaces old.queue.items new.queue.items → LeavesSurvey old new
+    KeepParts old.queue.items new.queue.items → LeavesSurvey old new
 names_leave old new e keep = grind arith
 
 -- the words and windows alone
 pub queue_leaves : (old new : Workspace) → new ≡ record old { queue = new.queue; windows = new.windows } →
-    KeepPlaces old.queue.items new.queue.items → LeavesAllButDue old new
+    KeepParts old.queue.items new.queue.items → LeavesAllButDue old new
 queue_leaves old new e keep = grind (arith, ap, names_leave)
 
 -- a word that is 0 isn't due

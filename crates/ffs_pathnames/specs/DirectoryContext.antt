@@ -1,7 +1,7 @@
 -- What is known of an image's bytes during the pathname check of a directory.
 use Rattle.std.specs.Prelude.{◌≡◌, ℕ, true, IsTrue, List, Option, Some}
 use Rattle.ffs_image.specs.Device.{Device}
-use Rattle.ffs_report.specs.Known.{ForBytes, IsContents}
+use Rattle.ffs_image.specs.Known.{ForBytes, IsContents}
 use Rattle.ffs_volume.specs.{declared.Layout.Layout, Blocks.Inodes.inode_of, Directories.Graph.Graph}
 use Rattle.ffs_volume.specs.{Directories.{Parents.graph_of, PathnameCheck.attributes_of, Roles.is_dir, Volumes.volume_of}, Encodings.Places.AreNoted}
 use Rattle.ffs_workspace.specs.{declared.workspace.Workspace.Workspace, Holds.{HoldsClaims, HoldsSurvey}}

@@ -1,6 +1,7 @@
 -- What the check of directories reports, how often it reads the image for that, and what it leaves.
 use Rattle.std.specs.Prelude.{◌≡◌, ℕ, ◌+◌, ◌*◌, ◌≤◌, true, IfOk, List, OnOk, Result, length, map}
-use Rattle.ffs_report.specs.{Known.ForBytes, Paid.Paid, PhaseOutcome.{ImageAfter, PhaseReports}}
+use Rattle.ffs_report.specs.{Paid.Paid, PhaseOutcome.{ImageAfter, PhaseReports}}
+use Rattle.ffs_image.specs.Known.{ForBytes}
 use Rattle.ffs_report.specs.declared.fault.RunFault.{RunFault}
 use Rattle.ffs_volume.specs.{declared.Layout.Layout, Directories.{PathnameCheck.dir_header_lines, Roles.roled_entries}}
 use Rattle.ffs_volume.specs.{Directories.{Roles.Volume, Volumes.volume_of}, Report.Reads.{line_reads, path_reads}}
@@ -12,7 +13,7 @@ use Rattle.ffs_workspace.specs.{Holds.{HoldsClaims, HoldsSurvey}, Leaves.LeavesF
 use Rattle.ffs_pathnames.specs.{ChecksNeeded.ChecksLookedAt, Before.IsBefore, Gathers.passed_of, LineReads.again_reads}
 use Rattle.ffs_pathnames.specs.{LineReads.ReadsByLines, DirectoryContext.KnowsHeader, HeaderValues.facts_lines}
 use Rattle.ffs_pathnames.specs.{Moments.LinesMoment, PassedNames.{are_quiet, directory_reported}, Ready.LinesLeave}
-use Rattle.ffs_pathnames.specs.{Ready.PhaseLeaves, declared.entry_texts.Checking.Checking}
+use Rattle.ffs_pathnames.specs.{Ready.DirectoryLeaves, declared.entry_texts.Checking.Checking}
 use Rattle.ffs_pathnames.specs.{Tasks.DirectoryTask, declared.header.HeaderFacts.HeaderFacts}
 
 -- the lines on what was found of a directory before its entries are said, and the image is read for no more
@@ -39,7 +40,7 @@ pub record ReportsDirectory {T : Type 0} (v : Layout) (task : DirectoryTask T) (
   pub paid : Paid line_reads old.said new.said (old.at.reads + old.kept.reads_left)
       (new.at.reads + new.kept.reads_left) result
   pub holds : IfOk result (λ x. ForBytes task.knows (task.after x))
-  pub leaves : PhaseLeaves v old.at new.at new.kept.texts.kept_parent result
+  pub leaves : DirectoryLeaves v old.at new.at new.kept.texts.kept_parent result
 
 -- these lines of all directories are said, by what is known of the bytes. Each directory's own blocks are
 -- read thrice at most, for the places of its children, for a first look and for a second reading, and the

@@ -1,12 +1,13 @@
 -- What is reported of entries of a directory.
 use Rattle.std.specs.Prelude.{◌≡◌, ℕ, IsTrue, List, OnOk, Result, length, map}
-use Rattle.ffs_report.specs.{Paid.Paid, PhaseOutcome.PhaseReports, declared.fault.RunFault.RunFault, Known.ForBytes}
+use Rattle.ffs_report.specs.{Paid.Paid, PhaseOutcome.PhaseReports, declared.fault.RunFault.RunFault}
+use Rattle.ffs_image.specs.Known.{ForBytes}
 use Rattle.ffs_volume.specs.{declared.Layout.Layout, Directories.{Roles.{RoledEntry, Volume}, Volumes.volume_of}}
 use Rattle.ffs_volume.specs.{Messages.Kinds.{TreeMessage, of_tree}, Report.Reads.line_reads, Encodings.Places.AreNoted}
 use Rattle.ffs_pathnames.specs.{DirectoryContext.{DirectoryContext, KeepsPath, KnowsPath}, LineReads.ReadsByLines}
 use Rattle.ffs_pathnames.specs.{LineReads.ReadsPathOnce, declared.entry_texts.EntryTexts.EntryTexts, Gathers.passed_of}
 use Rattle.ffs_pathnames.specs.{Moments.LinesMoment, PassedNames.{after_entries, entries_reported}, Ready.LinesLeave}
-use Rattle.ffs_pathnames.specs.Ready.{PhaseLeaves}
+use Rattle.ffs_pathnames.specs.Ready.{DirectoryLeaves}
 
 -- lines of entries of the directory `dir` are said, those of the volume; the path that is settled, if
 -- any, is still that of `dir`, and made once; and the image is read for no more than these lines, any image
@@ -37,5 +38,5 @@ pub record PassesEntries {T : Type 0} (v : Layout) (dir : ℕ) (entries : List R
   pub lines : ReportsEntries v dir (λ vol. entries_reported vol dir (passed_of old.at.workspace) entries) old new result
   pub passed : OnOk result (ForBytes (DirectoryContext v old.at.image.contents old.at.workspace dir) (λ b.
       after_entries (volume_of v b) dir (passed_of old.at.workspace) entries ≡ passed_of new.at.workspace))
-  pub leaves : PhaseLeaves v old.at new.at new.kept.kept_parent result
+  pub leaves : DirectoryLeaves v old.at new.at new.kept.kept_parent result
   pub current : new.at.workspace.windows.current ≡ old.at.workspace.windows.current

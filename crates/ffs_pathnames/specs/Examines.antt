@@ -2,18 +2,18 @@
 use Rattle.std.specs.{Prelude.{◌≡◌, ◌+◌, ◌≤◌, ℕ, ◌==◌, IfOk, List, [], Result}, List.find}
 use Rattle.ffs_workspace.specs.Moments.{WorkMoment}
 use Rattle.ffs_image.specs.{Reads.ReadAfter, declared.image.ImageFault.ImageFault}
-use Rattle.ffs_report.specs.Known.{ForBytes}
+use Rattle.ffs_image.specs.Known.{ForBytes}
 use Rattle.ffs_volume.specs.{declared.Layout.Layout, Blocks.Inodes.inode_of, Directories.Roles.roled_entries}
 use Rattle.ffs_volume.specs.Directories.{PathnameCheck.are_sound, Volumes.volume_of}
 use Rattle.ffs_pathnames.specs.{declared.look.{Examination.Examination, FirstLook.FirstLook}, Gathers.passed_of}
-use Rattle.ffs_pathnames.specs.{PassedNames.{are_quiet, after_looks}, StartChunks.start_chunk, Stamps.KeepPlaces}
+use Rattle.ffs_pathnames.specs.{PassedNames.{are_quiet, after_looks}, StartChunks.start_chunk, Stamps.KeepParts}
 use Rattle.ffs_workspace.specs.{declared.workspace.Workspace.Workspace, Leaves.LeavesSurvey, Ready.CanRead}
 
 -- a call leaves what the phases before the pathname check left, the flags, and the places that words note
 pub record LeavesAllButDue (old new : Workspace) : Type 0 where
   pub survey : LeavesSurvey old new
   pub flags : new.flags ≡ old.flags
-  pub places : KeepPlaces old.queue.items new.queue.items
+  pub places : KeepParts old.queue.items new.queue.items
 
 -- what the first look at a directory leaves: the image, but for a read that failed, and all of the
 -- workspace but which words are due

@@ -10,8 +10,8 @@ use Rattle.ffs_volume.specs.Directories.{Parents.graph_of, Paths.{dir_path, entr
 use Rattle.ffs_volume.specs.Directories.PathnameCheck.{attributes, extra_lines, plain_lines, verdict_lines}
 use Rattle.ffs_volume.specs.Report.Reads.{line_reads, path_reads}
 use Rattle.ffs_layout.specs.Entry.{entry_value}
-use Rattle.ffs_report.specs.Known.{ForBytes}
-use Rattle.ffs_paths.specs.{DirectoryPaths.IsPathOf, KeptParents.{kept_moment, KeepsChild, PathLeaves, SparesReads}}
+use Rattle.ffs_image.specs.Known.{ForBytes}
+use Rattle.ffs_paths.specs.{DirectoryPaths.IsPathOf, KeptParents.{kept_moment, StoresChild, PathLeaves, SparesReads}}
 use Rattle.ffs_paths.specs.{LastPaths.last_path, Reads.{KnowsPlaces, OnlyReadsFew}}
 use Rattle.ffs_paths.specs.declared.{entry_paths.EntryPaths.EntryPaths, kept_parent.KeptParent.KeptParent}
 use Rattle.ffs_pathnames.specs.{DirectoryContext.{DirectoryContext, KeepsPath, KnowsPath}, Ready.LimitedPathLeaves}
@@ -115,7 +115,7 @@ module _ {S : Type 0} (I : Ghosts S) (v : Layout) (old new : S) (w w' : Workspac
   pub record SparesPath {T : Type 0} (dir : ℕ) (s s' : KeptParent) (result : Result T ImageFault) : Type 0 where
     pub reads : SparesReads v dir (kept_moment I old w s) (kept_moment I new w' s')
     pub keeps : OnOk result ((y : ℕ) → ForBytes (DirectoryContext v (I.device old).contents w y)
-        (λ b. KeepsChild w dir s s'))
+        (λ b. StoresChild w dir s s'))
 
   -- the path is made, with at most `path_reads` reads of any image
   pub record MakesPathLimited {T : Type 0} (dir : ℕ) (t t' : EntryTexts) (result : Result T ImageFault) : Type 0 where

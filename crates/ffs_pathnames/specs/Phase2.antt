@@ -3,9 +3,10 @@ use Rattle.std.specs.Prelude.{◌≡◌, ◌⊎◌, ◌≤◌, ◌+◌, ◌*◌,
 use Rattle.ffs_image.specs.Device.{Device}
 use Rattle.ffs_volume.specs.{declared.Layout.Layout, Directories.PathnameCheck.{continues_after_root, pathname_lines}}
 use Rattle.ffs_volume.specs.{Directories.Volumes.volume_of, Messages.Kinds.{phase2}, Report.Reads.line_reads}
-use Rattle.ffs_volume.specs.Report.{Reads.pathname_reads, DirectoryReads.{directories_cost, noted_costs, phase2_cost}}
+use Rattle.ffs_volume.specs.Report.{Reads.pathname_reads, DirectoryReads.{directories_cost, sweep_costs, phase2_cost}}
 use Rattle.ffs_volume.specs.Report.Whole.{phase2_messages}
-use Rattle.ffs_report.specs.{Known.ForBytes, Progress.{Progress, Said}, declared.fault.RunFault.RunFault}
+use Rattle.ffs_report.specs.{Progress.{Progress, Said}, declared.fault.RunFault.RunFault}
+use Rattle.ffs_image.specs.Known.{ForBytes}
 use Rattle.ffs_report.specs.declared.fault.RunFault.TheVariants.{Read, Out}
 use Rattle.ffs_workspace.specs.{declared.workspace.Workspace.Workspace, Found.WithClaims}
 use Rattle.ffs_workspace.specs.Holds.{HoldsClaims, HoldsFindings}
@@ -40,7 +41,7 @@ pub record Phase2Reads (v : Layout) (d : Device) (w : Workspace) (before after :
       after ≤ before + (4 * directories_cost v bytes + line_reads * length (pathname_lines (volume_of v bytes))))
   pub looked_at : w.surveyed ≡ false → ForBytes (WithClaims v d w) (λ bytes.
       after ≤ before + (phase2_cost v bytes + line_reads * length (pathname_lines (volume_of v bytes))))
-  pub again : w.surveyed ≡ true → ForBytes (WithClaims v d w) (λ bytes.
+  pub surveyed_before : w.surveyed ≡ true → ForBytes (WithClaims v d w) (λ bytes.
       after ≤ before + (3 * directories_cost v bytes + line_reads * length (pathname_lines (volume_of v bytes))))
   pub stopped : ForBytes (WithClaims v d w) (λ bytes. continues_after_root (volume_of v bytes) ≡ false
-      → after ≤ before + noted_costs v bytes)
+      → after ≤ before + sweep_costs v bytes)

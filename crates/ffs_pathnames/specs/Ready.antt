@@ -6,7 +6,7 @@ use Rattle.ffs_volume.specs.{declared.Layout.Layout, Encodings.Notes.cut_in}
 use Rattle.ffs_workspace.specs.{declared.workspace.Workspace.Workspace, Ready.CanRead, Leaves.LeavesSurvey}
 use Rattle.ffs_report.specs.{PhaseOutcome.ImageAfter, declared.fault.RunFault.RunFault}
 use Rattle.ffs_paths.specs.{Reads.{CanReadFor}, declared.kept_parent.KeptParent.KeptParent}
-use Rattle.ffs_pathnames.specs.{declared.look.Directory.Directory, Stamps.KeepPlaces}
+use Rattle.ffs_pathnames.specs.{declared.look.Directory.Directory, Stamps.KeepParts}
 pub use Rattle.ffs_paths.specs.KeptParents.{ReadyWith, ReadyToPath, PathLeaves}
 
 -- all is ready for a call, and the inode x is there, where it is wanted
@@ -48,11 +48,11 @@ pub record LimitedPathLeaves {T : Type 0} (v : Layout) (n : ℕ) (old new : Work
 
 -- what a call of the phase leaves: the image, but for a read that failed, what the block check and
 -- the survey found, the places that words note, and all that the next call asks for
-pub record PhaseLeaves {T : Type 0} (v : Layout) (old new : WorkMoment) (s : KeptParent) (result : Result T RunFault) :
+pub record DirectoryLeaves {T : Type 0} (v : Layout) (old new : WorkMoment) (s : KeptParent) (result : Result T RunFault) :
     Type 0 where
   pub image : ImageAfter old.image new.image result
   pub survey : LeavesSurvey old.workspace new.workspace
-  pub places : KeepPlaces old.workspace.queue.items new.workspace.queue.items
+  pub places : KeepParts old.workspace.queue.items new.workspace.queue.items
   pub ready : ReadyAfter v new.image new.workspace s result
 
 -- the same of a call that changes nothing of the workspace but its windows; the window of the

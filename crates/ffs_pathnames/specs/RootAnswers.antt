@@ -1,7 +1,8 @@
 -- Whether the check continues after the root, and what that says of a read that failed.
 use Rattle.std.specs.Prelude.{◌≡◌, ℕ, Bool, true, false, List, [], ◌∷◌, ◌++◌, Result, Ok, Err, ⊤}
 use Rattle.ffs_image.specs.Device.{Device}
-use Rattle.ffs_report.specs.{Known.ForBytes, Progress.{Progress, Said}}
+use Rattle.ffs_report.specs.Progress.{Progress, Said}
+use Rattle.ffs_image.specs.Known.{ForBytes}
 use Rattle.ffs_report.specs.declared.fault.RunFault.{RunFault, TheVariants.{Read, Out}}
 use Rattle.ffs_volume.specs.{declared.Layout.Layout, Directories.PathnameCheck.continues_after_root}
 use Rattle.ffs_volume.specs.{Directories.Volumes.volume_of, Messages.Kinds.{Message, stops_check}}

@@ -19,40 +19,6 @@ use ffs_volume::Role;
 use ffs_volume::constants::DIRBLKSIZ;
 use ffs_workspace::{Windows, Workspace};
 
-/// Reads the next chunk of a directory, and returns its place in the file, in bytes, and None where
-/// no chunk is left. `reads_left` is how many reads may be made of directories' own blocks; it
-/// falls by those that are made. Only an image that gives other bytes each time asks for more: then
-/// no chunk comes any more.
-///
-/// # Errors
-/// A read of the image that failed.
-fn next_chunk<I: Image>(
-    chunks: &mut Chunks,
-    image: &mut I,
-    windows: &mut Windows,
-    bytes: &mut [u8; DIRBLKSIZ],
-    reads_left: &mut u64,
-) -> Result<Option<u64>, ImageFault>
-    requires { CanReadChunks chunks.old.walk.geometry.layout (I.device image.old)
-        windows.old.blocks windows.old.current }
-    ensures { ReadsNext (second_reading I.Image image.old reads_left.old windows.old chunks.old)
-        (second_reading I.Image image.new reads_left.new windows.new chunks.new) bytes.new result }
-{
-    let mut limited = LimitedImage::new(image, *reads_left);
-    let offset = chunks.next(
-        &mut limited,
-        &mut windows.blocks,
-        &mut windows.current,
-        bytes,
-    );
-    *reads_left = limited.left();
-    if limited.is_spent() {
-        // See `LimitedImage`: bytes that stay never ask for so many reads.
-        return Ok(None);
-    }
-    offset
-}
-
 /// Says the lines of the entries of a directory, chunk by chunk, and passes them.
 ///
 /// # Errors
@@ -105,27 +71,70 @@ pub fn report_entries<I: Image, W: Output>(
     Ok(())
 }
 
-/// Says the lines of an entry, by its role.
-fn report_by_role<I: Image, W: Output>(
+/// Reads the next chunk of a directory, and returns its place in the file, in bytes, and None where
+/// no chunk is left. `reads_left` is how many reads may be made of directories' own blocks; it
+/// falls by those that are made. Only an image that gives other bytes each time asks for more: then
+/// no chunk comes any more.
+///
+/// # Errors
+/// A read of the image that failed.
+fn next_chunk<I: Image>(
+    chunks: &mut Chunks,
+    image: &mut I,
+    windows: &mut Windows,
+    bytes: &mut [u8; DIRBLKSIZ],
+    reads_left: &mut u64,
+) -> Result<Option<u64>, ImageFault>
+    requires { CanReadChunks chunks.old.walk.geometry.layout (I.device image.old)
+        windows.old.blocks windows.old.current }
+    ensures { ReadsNext (second_reading I.Image image.old reads_left.old windows.old chunks.old)
+        (second_reading I.Image image.new reads_left.new windows.new chunks.new) bytes.new result }
+{
+    let mut limited = LimitedImage::new(image, *reads_left);
+    let offset = chunks.next(
+        &mut limited,
+        &mut windows.blocks,
+        &mut windows.current,
+        bytes,
+    );
+    *reads_left = limited.left();
+    if limited.is_spent() {
+        // See `LimitedImage`: bytes that stay never ask for so many reads.
+        return Ok(None);
+    }
+    offset
+}
+
+/// Says the lines of the entries of a chunk, and passes them.
+///
+/// # Errors
+/// A read of the image that failed, and a write of the report that failed.
+pub fn report_chunk<I: Image, W: Output>(
     geometry: &Geometry,
     image: &mut I,
     workspace: &mut Workspace,
     texts: &mut EntryTexts,
-    entry: &DirectoryEntry<'_>,
+    chunk: &DirectoryChunk<'_>,
     report: &mut Report<'_, W>,
 ) -> Result<(), RunFault>
     requires { ReadyToPath geometry.now.layout (I.device image.old) workspace.old
-        texts.old.kept_parent entry.now.dir }
-    ensures { ReportsOneEntry geometry.now.layout entry.now.dir
-        (λ vol. roled_lines_by vol workspace.old entry.now)
+        texts.old.kept_parent chunk.now.dir }
+    ensures { PassesEntries geometry.now.layout chunk.now.dir
+        (roled_in geometry.now.layout.order chunk.now)
         (lines_moment I.Image W.Output image.old workspace.old report.old texts.old)
         (lines_moment I.Image W.Output image.new workspace.new report.new texts.new) result }
 {
-    match entry.role {
-        Role::Empty | Role::Dot | Role::Dotdot => Ok(()),
-        Role::Extra => report_extra(geometry, image, workspace, texts, entry, report),
-        Role::Plain => report_plain(geometry, image, workspace, texts, entry, report),
+    let order = geometry.layout.order;
+    let mut entries = ChunkEntries::of_chunk(order, chunk.bytes);
+    'entries: while let Some((index, entry)) = entries.next() {
+        let roled = DirectoryEntry {
+            dir: chunk.dir,
+            role: role_of(chunk.at_start, index, &entry),
+            entry,
+        };
+        report_entry(geometry, image, workspace, texts, &roled, report)?;
     }
+    Ok(())
 }
 
 /// Says the lines of an entry, and passes it.
@@ -163,34 +172,25 @@ pub fn report_entry<I: Image, W: Output>(
     Ok(())
 }
 
-/// Says the lines of the entries of a chunk, and passes them.
-///
-/// # Errors
-/// A read of the image that failed, and a write of the report that failed.
-pub fn report_chunk<I: Image, W: Output>(
+/// Says the lines of an entry, by its role.
+fn report_by_role<I: Image, W: Output>(
     geometry: &Geometry,
     image: &mut I,
     workspace: &mut Workspace,
     texts: &mut EntryTexts,
-    chunk: &DirectoryChunk<'_>,
+    entry: &DirectoryEntry<'_>,
     report: &mut Report<'_, W>,
 ) -> Result<(), RunFault>
     requires { ReadyToPath geometry.now.layout (I.device image.old) workspace.old
-        texts.old.kept_parent chunk.now.dir }
-    ensures { PassesEntries geometry.now.layout chunk.now.dir
-        (roled_in geometry.now.layout.order chunk.now)
+        texts.old.kept_parent entry.now.dir }
+    ensures { ReportsOneEntry geometry.now.layout entry.now.dir
+        (λ vol. roled_lines_by vol workspace.old entry.now)
         (lines_moment I.Image W.Output image.old workspace.old report.old texts.old)
         (lines_moment I.Image W.Output image.new workspace.new report.new texts.new) result }
 {
-    let order = geometry.layout.order;
-    let mut entries = ChunkEntries::of_chunk(order, chunk.bytes);
-    'entries: while let Some((index, entry)) = entries.next() {
-        let roled = DirectoryEntry {
-            dir: chunk.dir,
-            role: role_of(chunk.at_start, index, &entry),
-            entry,
-        };
-        report_entry(geometry, image, workspace, texts, &roled, report)?;
+    match entry.role {
+        Role::Empty | Role::Dot | Role::Dotdot => Ok(()),
+        Role::Extra => report_extra(geometry, image, workspace, texts, entry, report),
+        Role::Plain => report_plain(geometry, image, workspace, texts, entry, report),
     }
-    Ok(())
 }

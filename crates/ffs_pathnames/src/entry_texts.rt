@@ -5,7 +5,7 @@ ghost use Rattle.ffs_volume.specs.declared.Layout.{Layout};
 ghost use Rattle.ffs_pathnames.specs.Ready.{ReadyToPath};
 ghost use Rattle.ffs_pathnames.specs.Gathers.{BeginsPath, MakesPath, MakesPathLimited, PutsPath, SparesPath};
 ghost use Rattle.ffs_workspace.specs.{declared.workspace.Workspace.Workspace as WorkspaceIn};
-ghost use Rattle.ffs_paths.specs.KeptParents.{KeepsParent};
+ghost use Rattle.ffs_paths.specs.KeptParents.{HoldsKeptParent};
 
 use ffs_image::{Image, ImageFault, LimitedImage};
 use ffs_layout::Geometry;
@@ -28,13 +28,13 @@ pub struct EntryTexts {
 }
 
 impl EntryTexts {
-    ghost use Rattle.ffs_paths.specs.KeptParents.{KeepsParent};
+    ghost use Rattle.ffs_paths.specs.KeptParents.{HoldsKeptParent};
     ghost use Rattle.ffs_workspace.specs.declared.workspace.Workspace as workspaces;
 
     /// Of no directory.
     pub fn none() -> EntryTexts
         ensures { (v : Layout) (contents : Option (List ℕ)) (w : workspaces.Workspace)
-            → KeepsParent v contents w result.kept_parent }
+            → HoldsKeptParent v contents w result.kept_parent }
     {
         EntryTexts {
             kept_parent: KeptParent::none(),
@@ -61,7 +61,7 @@ pub struct Checking {
 /// Keeps nothing of a parent any more.
 fn forget_parent(kept_parent: &mut KeptParent)
     ensures { (v : Layout) (contents : Option (List ℕ)) (w : WorkspaceIn)
-        → KeepsParent v contents w kept_parent.new }
+        → HoldsKeptParent v contents w kept_parent.new }
 {
     kept_parent.parent = 0;
     kept_parent.child = 0;

@@ -5,7 +5,7 @@ ghost use Rattle.std.specs.Prelude.{◌≡◌, ◌+◌, ◌≤◌, ◌&&◌, tru
 ghost use Rattle.ffs_workspace.specs.Moments.{work_moment};
 ghost use Rattle.ffs_volume.specs.{Report.DirectoryReads.{directory_cost, directory_runs}, declared.Order.Order};
 ghost use Rattle.ffs_volume.specs.{declared.Role.Role, Directories.{Entries.{Chunk, chunk_of, is_sound}, Roles.Volume}};
-ghost use Rattle.ffs_report.specs.Known.{ForBytes};
+ghost use Rattle.ffs_image.specs.Known.{ForBytes};
 ghost use Rattle.ffs_pathnames.specs.{DirectoryContext.{DirectoryContext, KnowsDirectory}};
 ghost use Rattle.ffs_pathnames.specs.{ReadsLeft.LeftForLook, Examines.{Examines, IsExamined, IsFirstLook, StampsOwn}};
 ghost use Rattle.ffs_pathnames.specs.{Examines.TakesLook, StartChunks.start_chunk, Looks.{StampsEntries, roled_in}};
@@ -23,6 +23,30 @@ use ffs_volume::constants::{DIRBLKSIZ, ROOTINO};
 use ffs_volume::{Inode, Order, Role};
 use ffs_workspace::{Workspace, with_due};
 
+/// A directory that is read.
+#[derive(Clone, Copy, Debug)]
+pub struct Directory {
+    /// Its number.
+    pub number: u32,
+    /// Its inode.
+    pub inode: Inode,
+    /// Its cut (`Workspace::noted_cut`).
+    pub cut: u32,
+}
+
+/// What a first look at a directory finds.
+#[derive(Clone, Copy, Debug)]
+pub struct FirstLook {
+    /// Whether it is sure that nothing is reported of its entries.
+    pub quiet: bool,
+    /// Whether all its chunks are sound.
+    pub sound: bool,
+    /// Whether a hole is among its kept steps.
+    pub gap: bool,
+    /// Whether a chunk is at the start of the file.
+    pub started: bool,
+}
+
 /// What an examination of a directory finds, before anything is reported of it.
 #[derive(Clone, Copy, Debug)]
 pub struct Examination {
@@ -30,6 +54,43 @@ pub struct Examination {
     pub inode: Inode,
     /// What a first look at its chunks found.
     pub look: FirstLook,
+}
+
+/// Examines a directory, stamps the inodes that belong to it, and puts the chunk at the start of
+/// the file into `start`, if one is there. `reads_left` is how many reads may be made of
+/// directories' own blocks; it falls by those that are made. Only an image that gives other bytes
+/// each time asks for more: the result is then that of `unexamined`.
+///
+/// # Errors
+/// A read of the image that failed.
+pub fn examine<I: Image>(
+    geometry: &Geometry,
+    image: &mut I,
+    workspace: &mut Workspace,
+    reads_left: &mut u64,
+    dir: u32,
+    start: &mut [u8; DIRBLKSIZ],
+) -> Result<Examination, ImageFault>
+    requires { ReadyToLook geometry.now.layout (I.device image.old) workspace.old dir }
+    ensures examines { Examines geometry.now.layout
+        (LeftForLook geometry.now.layout (I.device image.old) workspace.old dir reads_left.old)
+        (λ e b. IsExamined geometry.now.layout b dir workspace.old e start.new
+        × StampsOwn geometry.now.layout b dir workspace.old workspace.new)
+        (work_moment I.Image image.old workspace.old) (work_moment I.Image image.new workspace.new)
+        result }
+    ensures cost { TakesLook
+        (DirectoryContext geometry.now.layout (I.device image.old).contents workspace.old dir)
+        (λ b. directory_cost geometry.now.layout b dir)
+        (I.reads image.old) (I.reads image.new) reads_left.old reads_left.new }
+{
+    let mut limited = LimitedImage::new(image, *reads_left);
+    let examined = examine_unlimited(geometry, &mut limited, workspace, dir, start);
+    *reads_left = limited.left();
+    if limited.is_spent() {
+        // See `LimitedImage`: bytes that stay never ask for so many reads.
+        return Ok(unexamined());
+    }
+    examined
 }
 
 /// As `examine`, with no limit on reads: so no clause speaks of reads that are left.
@@ -90,85 +151,6 @@ fn unexamined() -> Examination
             started: false,
         },
     }
-}
-
-/// Examines a directory, stamps the inodes that belong to it, and puts the chunk at the start of
-/// the file into `start`, if one is there. `reads_left` is how many reads may be made of
-/// directories' own blocks; it falls by those that are made. Only an image that gives other bytes
-/// each time asks for more: the result is then that of `unexamined`.
-///
-/// # Errors
-/// A read of the image that failed.
-pub fn examine<I: Image>(
-    geometry: &Geometry,
-    image: &mut I,
-    workspace: &mut Workspace,
-    reads_left: &mut u64,
-    dir: u32,
-    start: &mut [u8; DIRBLKSIZ],
-) -> Result<Examination, ImageFault>
-    requires { ReadyToLook geometry.now.layout (I.device image.old) workspace.old dir }
-    ensures examines { Examines geometry.now.layout
-        (LeftForLook geometry.now.layout (I.device image.old) workspace.old dir reads_left.old)
-        (λ e b. IsExamined geometry.now.layout b dir workspace.old e start.new
-        × StampsOwn geometry.now.layout b dir workspace.old workspace.new)
-        (work_moment I.Image image.old workspace.old) (work_moment I.Image image.new workspace.new)
-        result }
-    ensures cost { TakesLook
-        (DirectoryContext geometry.now.layout (I.device image.old).contents workspace.old dir)
-        (λ b. directory_cost geometry.now.layout b dir)
-        (I.reads image.old) (I.reads image.new) reads_left.old reads_left.new }
-{
-    let mut limited = LimitedImage::new(image, *reads_left);
-    let examined = examine_unlimited(geometry, &mut limited, workspace, dir, start);
-    *reads_left = limited.left();
-    if limited.is_spent() {
-        // See `LimitedImage`: bytes that stay never ask for so many reads.
-        return Ok(unexamined());
-    }
-    examined
-}
-
-/// A directory that is read.
-#[derive(Clone, Copy, Debug)]
-pub struct Directory {
-    /// Its number.
-    pub number: u32,
-    /// Its inode.
-    pub inode: Inode,
-    /// Its cut (`Workspace::noted_cut`).
-    pub cut: u32,
-}
-
-/// What a first look at a directory finds.
-#[derive(Clone, Copy, Debug)]
-pub struct FirstLook {
-    /// Whether it is sure that nothing is reported of its entries.
-    pub quiet: bool,
-    /// Whether all its chunks are sound.
-    pub sound: bool,
-    /// Whether a hole is among its kept steps.
-    pub gap: bool,
-    /// Whether a chunk is at the start of the file.
-    pub started: bool,
-}
-
-/// Keeps a chunk that is at the start of the file, if none is kept yet, and returns whether one is.
-fn keep_start(
-    offset: u64,
-    chunk: &[u8; DIRBLKSIZ],
-    started: bool,
-    start: &mut [u8; DIRBLKSIZ],
-) -> bool
-    ensures { (order : Order) (cs : List Chunk)
-        → start_chunk (chunk_of order offset chunk.now ∷ cs) started order start.old
-        ≡ start_chunk cs result order start.new }
-{
-    if started || offset != 0 {
-        return started;
-    }
-    *start = *chunk;
-    true
 }
 
 /// Looks at a directory once: at its entries, its chunks, its holes, and the chunk at the start of
@@ -235,59 +217,22 @@ pub fn look_directory<I: Image>(
     })
 }
 
-/// Stamps the inode that a plain entry names, if that inode belongs to the directory: sets the bit
-/// of its word that says that its parent entry is due. The place in the word stays.
-fn stamp(inodes: &Inodes<'_>, dir: u32, words: &mut FilledList<u32>, entry: &Entry<'_>)
-    requires { CanStamp inodes.now dir words.old.items }
-    ensures { StampsEntries inodes.now dir
-        (record { role = Role.Plain; entry = entry_value entry.now } ∷ []) words.old words.new }
-{
-    // A whiteout names no inode, and the root has no parent entry.
-    if entry.number <= ROOTINO || entry.number >= inodes.count() {
-        return;
-    }
-    if inodes.belongs(dir, entry.number) {
-        let index = entry.number as usize;
-        words.set(index, with_due(words[index]));
-    }
-}
-
-/// Looks at a plain entry, and stamps the inode that it names, if that belongs to the directory.
-/// Returns whether it is sure that nothing is reported of it, nor of the entries before it, where
-/// `quiet` says that it is sure of these. Where it isn't, a line may come or not.
-#[tactic(auto, unfolding(crate::specs::PassedNames::is_quiet))]
-fn look_plain(
-    inodes: &Inodes<'_>,
-    dir: u32,
-    flags: &FilledList<bool>,
-    words: &mut FilledList<u32>,
-    entry: &Entry<'_>,
-    quiet: bool,
+/// Keeps a chunk that is at the start of the file, if none is kept yet, and returns whether one is.
+fn keep_start(
+    offset: u64,
+    chunk: &[u8; DIRBLKSIZ],
+    started: bool,
+    start: &mut [u8; DIRBLKSIZ],
 ) -> bool
-    requires { CanLook inodes.now dir flags.now.items words.old.items }
-    ensures quiet { (vol : Volume) → Sees vol inodes.now → result ≡ (quiet && names.is_quiet vol dir
-        flags.now.items (stamps_in inodes.now words.old.items)
-        (record { role = Role.Plain; entry = entry_value entry.now })) }
-    ensures stamps { StampsEntries inodes.now dir
-        (record { role = Role.Plain; entry = entry_value entry.now } ∷ []) words.old words.new }
+    ensures { (order : Order) (cs : List Chunk)
+        → start_chunk (chunk_of order offset chunk.now ∷ cs) started order start.old
+        ≡ start_chunk cs result order start.new }
 {
-    // A harmless entry names no directory, so nothing is stamped.
-    if is_harmless(inodes, flags, entry) {
-        return quiet;
+    if started || offset != 0 {
+        return started;
     }
-    // After an entry that isn't quiet the chunk isn't either, so no other verdict is asked.
-    let still = quiet && verdict_at_look(inodes, dir, flags, words, entry).is_silent();
-    stamp(inodes, dir, words, entry);
-    still
-}
-
-/// What a look at the entries of a chunk finds.
-#[derive(Clone, Copy, Debug)]
-pub struct ChunkLook {
-    /// Whether it is sure that nothing is reported of them.
-    pub quiet: bool,
-    /// Whether they fill the chunk.
-    pub sound: bool,
+    *start = *chunk;
+    true
 }
 
 /// A chunk of a directory.
@@ -299,6 +244,15 @@ pub struct DirectoryChunk<'a> {
     pub at_start: bool,
     /// Its bytes.
     pub bytes: &'a [u8; DIRBLKSIZ],
+}
+
+/// What a look at the entries of a chunk finds.
+#[derive(Clone, Copy, Debug)]
+pub struct ChunkLook {
+    /// Whether it is sure that nothing is reported of them.
+    pub quiet: bool,
+    /// Whether they fill the chunk.
+    pub sound: bool,
 }
 
 /// Looks at the entries of a chunk of a directory, and stamps the inodes that belong to that.
@@ -332,5 +286,51 @@ pub fn look_chunk(
     ChunkLook {
         quiet,
         sound: entries.place == DIRBLKSIZ,
+    }
+}
+
+/// Looks at a plain entry, and stamps the inode that it names, if that belongs to the directory.
+/// Returns whether it is sure that nothing is reported of it, nor of the entries before it, where
+/// `quiet` says that it is sure of these. Where it isn't, a line may come or not.
+#[tactic(auto, unfolding(crate::specs::PassedNames::is_quiet))]
+fn look_plain(
+    inodes: &Inodes<'_>,
+    dir: u32,
+    flags: &FilledList<bool>,
+    words: &mut FilledList<u32>,
+    entry: &Entry<'_>,
+    quiet: bool,
+) -> bool
+    requires { CanLook inodes.now dir flags.now.items words.old.items }
+    ensures quiet { (vol : Volume) → Sees vol inodes.now → result ≡ (quiet && names.is_quiet vol dir
+        flags.now.items (stamps_in inodes.now words.old.items)
+        (record { role = Role.Plain; entry = entry_value entry.now })) }
+    ensures stamps { StampsEntries inodes.now dir
+        (record { role = Role.Plain; entry = entry_value entry.now } ∷ []) words.old words.new }
+{
+    // A harmless entry names no directory, so nothing is stamped.
+    if is_harmless(inodes, flags, entry) {
+        return quiet;
+    }
+    // After an entry that isn't quiet the chunk isn't either, so no other verdict is asked.
+    let still = quiet && verdict_at_look(inodes, dir, flags, words, entry).is_silent();
+    stamp(inodes, dir, words, entry);
+    still
+}
+
+/// Stamps the inode that a plain entry names, if that inode belongs to the directory: sets the bit
+/// of its word that says that its parent entry is due. The place in the word stays.
+fn stamp(inodes: &Inodes<'_>, dir: u32, words: &mut FilledList<u32>, entry: &Entry<'_>)
+    requires { CanStamp inodes.now dir words.old.items }
+    ensures { StampsEntries inodes.now dir
+        (record { role = Role.Plain; entry = entry_value entry.now } ∷ []) words.old words.new }
+{
+    // A whiteout names no inode, and the root has no parent entry.
+    if entry.number <= ROOTINO || entry.number >= inodes.count() {
+        return;
+    }
+    if inodes.belongs(dir, entry.number) {
+        let index = entry.number as usize;
+        words.set(index, with_due(words[index]));
     }
 }

@@ -1,6 +1,7 @@
 //! Phase 2: pathnames (fsck(8)).
 ghost use Rattle.std.specs.Prelude.{◌≡◌, ◌+◌, ◌*◌, ◌∷◌, [], false, true, length, map, slice_index, vec_len, ◌&&◌, not, ℕ, IfOk, IsErr, OnErr};
-ghost use Rattle.ffs_report.specs.{Known.ForBytes, Paid.Paid, PhaseOutcome.{HeadingFirst, ImageAfter, PhaseReports}};
+ghost use Rattle.ffs_report.specs.{Paid.Paid, PhaseOutcome.{HeadingFirst, ImageAfter, PhaseReports}};
+ghost use Rattle.ffs_image.specs.Known.{ForBytes};
 ghost use Rattle.ffs_report.specs.PhaseOutcome.{SaysBeforeFault};
 ghost use Rattle.ffs_report.specs.Progress.{progress};
 ghost use Rattle.ffs_volume.specs.Directories.{PathnameCheck.pathname_lines, Volumes.volume_of};
@@ -46,13 +47,13 @@ pub enum Root {
 /// One that gives other bytes each time is read no more than four sweeps, and `line_reads` for each
 /// message that was begun. Where no survey was made before, a directory of which nothing can be
 /// reported isn't read for the messages, unless it is marked (`phase2_cost`, and `looked_at` of
-/// `Phase2Reads`); where one was made, none is made again (`again` there). Where the check stops
+/// `Phase2Reads`); where one was made, none is made again (`surveyed_before`). Where the check stops
 /// after the root, only the survey reads (`stopped` there).
 ///
 /// # Errors
 /// A read of the image that failed, and a write of the report that failed. Where it was a write, or
 /// the workspace says `surveyed` then, phase 2 can be called again: all that it needs is held
-/// still. The workspace says so unless nothing but the heading was begun.
+/// still. Of known bytes the workspace says so unless nothing but the heading was begun.
 pub fn phase2<I: Image, W: Output>(
     geometry: &Geometry,
     image: &mut I,
@@ -67,7 +68,7 @@ pub fn phase2<I: Image, W: Output>(
         (progress W.sink report.new) result }
     ensures heading { HeadingFirst messages.phase2 (progress W.sink report.old)
         (progress W.sink report.new) result }
-    ensures leaves { Phase2Ends geometry.now.layout (I.device image.old) workspace.old
+    ensures ends { Phase2Ends geometry.now.layout (I.device image.old) workspace.old
         workspace.new (progress W.sink report.old) (progress W.sink report.new) result }
     ensures reads { Phase2Reads geometry.now.layout (I.device image.old) workspace.old
         (I.reads image.old) (I.reads image.new) }
@@ -80,8 +81,8 @@ pub fn phase2<I: Image, W: Output>(
     // references.
     ensures block_check { LeavesBlockCheck workspace.old workspace.new }
 
-    // The survey counts as made then, unless nothing but the heading was begun before a fault. One
-    // that was made before counts as made in any case.
+    // Of bytes that are known the survey counts as made then, unless nothing but the heading was
+    // begun before a fault. One that was made before counts as made in any case.
     ensures surveyed { workspace.new.surveyed ≡ false → (workspace.old.surveyed ≡ false) × ForBytes
         (WithClaims geometry.now.layout (I.device image.old) workspace.old)
         (λ bytes. IsErr result × SaysBeforeFault (messages.phase2 ∷ [])

@@ -6,7 +6,7 @@ use Rattle.ffs_volume.specs.{declared.Layout.Layout, Directories.Graph.Graph}
 use Rattle.ffs_workspace.specs.{declared.workspace.Workspace.Workspace, Leaves.LeavesSurvey, Ready.CanRead}
 use Rattle.ffs_workspace.proofs.Leaving.{claims_held, claims_left, survey_held, survey_left, windows_leave}
 use Rattle.ffs_paths.specs.{Reads.{ForTree, OnlyReads, ReadsNames}, declared.kept_parent.KeptParent.KeptParent}
-use Rattle.ffs_paths.specs.KeptParents.{IsKeptParent, KeepsParent, SamePlaces}
+use Rattle.ffs_paths.specs.KeptParents.{IsKeptParent, HoldsKeptParent, SamePlaces}
 use Rattle.ffs_walk.specs.{declared.{window.Window.Window, blocks.Blocks.Blocks}, Windows.WindowHolds}
 use Rattle.ffs_names.specs.Windows.{CanReadChunks}
 
@@ -17,31 +17,31 @@ leaves_back old new s same = grind arith
 -- what is kept stays right where the same places are noted
 pub kept_parent_on : (v : Layout) (contents contents' : Option (List ℕ)) (old new : Workspace) (s : KeptParent) →
     contents' ≡ contents → LeavesSurvey old new → SamePlaces old new
-    → KeepsParent v contents old s → KeepsParent v contents' new s
+    → HoldsKeptParent v contents old s → HoldsKeptParent v contents' new s
 kept_parent_on v contents contents' old new s e left same k = grind (arith, leaves_back, claims_left, survey_left)
 
 -- and so where only the windows have changed
 pub kept_parent_held : (v : Layout) (contents contents' : Option (List ℕ)) (old new : Workspace) (s : KeptParent) →
     contents' ≡ contents → new ≡ record old { windows = new.windows }
-    → KeepsParent v contents old s → KeepsParent v contents' new s
+    → HoldsKeptParent v contents old s → HoldsKeptParent v contents' new s
 kept_parent_held v contents contents' old new s e lists k = grind (arith, kept_parent_on, windows_leave)
 
 -- and after a call that only read
 pub kept_on : {T : Type 0} {v : Layout} {d d' : Device} {w w' : Workspace} {x : T} (s : KeptParent) →
-    OnlyReads v d d' w w' (Ok x) → KeepsParent v d.contents w s → KeepsParent v d'.contents w' s
+    OnlyReads v d d' w w' (Ok x) → HoldsKeptParent v d.contents w s → HoldsKeptParent v d'.contents w' s
 kept_on s r k = kept_parent_held _ _ _ _ _ s (ap (λ d. d.contents) r.read) r.lists k
 
 -- and after one that may have failed
 pub kept_so : {T : Type 0} {v : Layout} {d d' : Device} {w w' : Workspace} (result : Result T ImageFault)
-    (s : KeptParent) → OnlyReads v d d' w w' result → KeepsParent v d.contents w s →
-    OnOk result (KeepsParent v d'.contents w' s)
+    (s : KeptParent) → OnlyReads v d d' w w' result → HoldsKeptParent v d.contents w s →
+    OnOk result (HoldsKeptParent v d'.contents w' s)
 kept_so (Ok x) s r k = kept_on s r k
 kept_so (Err e) s r k = tt
 
 -- and after one that failed
 pub kept_still : {T : Type 0} {v : Layout} {d d' : Device} {w w' : Workspace} (result : Result T ImageFault)
-    (s : KeptParent) → OnlyReads v d d' w w' result → KeepsParent v d.contents w s →
-    OnErr result (KeepsParent v d'.contents w' s)
+    (s : KeptParent) → OnlyReads v d d' w w' result → HoldsKeptParent v d.contents w s →
+    OnErr result (HoldsKeptParent v d'.contents w' s)
 kept_still (Ok x) s r k = tt
 kept_still (Err e) s r k = kept_parent_held _ _ _ _ _ s r.read.contents r.lists k
 
@@ -68,7 +68,7 @@ tree_on {v = v} {w = w} {w' = w'} P r known = grind (arith, claims_held, survey_
 
 -- so what is kept then is right for the tree before
 pub kept_before : {T : Type 0} {v : Layout} {d d' : Device} {w w' : Workspace} {x : T} {s : KeptParent} →
-    OnlyReads v d d' w w' (Ok x) → KeepsParent v d'.contents w' s → ForTree v d w (λ g. IsKeptParent g s)
+    OnlyReads v d d' w w' (Ok x) → HoldsKeptParent v d'.contents w' s → ForTree v d w (λ g. IsKeptParent g s)
 kept_before {s = s} r k = tree_on (λ g. IsKeptParent g s) r k.right
 
 -- ---- what reads into the windows leave of a workspace

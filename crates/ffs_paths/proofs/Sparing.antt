@@ -7,7 +7,7 @@ use Rattle.ffs_volume.specs.{declared.Layout.Layout, Directories.{Parents.graph_
 use Rattle.ffs_workspace.specs.declared.workspace.Workspace.{Workspace}
 use Rattle.ffs_paths.specs.{Climbing.IsParentOf, Reads.{HoldsPlaceOf, KnowsPlaces, names_to, ReadsName}}
 use Rattle.ffs_paths.specs.Reads.{ReadsNames, ReadsPartOf}
-use Rattle.ffs_paths.specs.KeptParents.{HasPathOf, HoldsPlaceThen, KeepsChild, KeepsParent, KeepsPathOf, KeptMoment, PathCosts, SparesReads}
+use Rattle.ffs_paths.specs.KeptParents.{HasPathOf, HoldsPlaceThen, StoresChild, HoldsKeptParent, StoresPathOf, KeptMoment, PathCosts, SparesReads}
 use Rattle.ffs_paths.{specs.declared.kept_parent.KeptParent.KeptParent, proofs.Climbed.{few_more, few_then, names_more, noted_child}}
 use Rattle.ffs_paths.proofs.Keeping.{kept_so, reads_as, reads_then}
 
@@ -36,7 +36,7 @@ spares_name {v = v} {x = x} {old = old} of names same one again = record {
 }
 
 pub keeps_child : {w : Workspace} {x p : ℕ} {s s' : KeptParent} → IsParentOf w x p →
-    (s'.parent ≡ p) × (s'.child ≡ x) → KeepsChild w x s s'
+    (s'.parent ≡ p) × (s'.child ≡ x) → StoresChild w x s s'
 keeps_child {p = p} of kept = grind arith
 
 -- and the window holds the part of the name
@@ -47,10 +47,10 @@ held_then old mid new (Ok y) name = λ b p k of. (name b k).held
 held_then old mid new (Err e) name = tt
 
 pub costs_name : {S T : Type 0} {v : Layout} {x p : ℕ} {old new : KeptMoment} {mid : WorkMoment} {s : KeptParent} {a : S}
-    {result : Result T ImageFault} → IsParentOf old.at.workspace x p → KeepsPathOf v p old.at mid s (Ok a) →
+    {result : Result T ImageFault} → IsParentOf old.at.workspace x p → StoresPathOf v p old.at mid s (Ok a) →
     (HasPathOf old.kept p → (mid.reads ≡ old.at.reads) × (mid.workspace ≡ old.at.workspace)) →
-    ReadsName v x mid new.at result → OnOk result (KeepsParent v new.at.image.contents new.at.workspace new.kept) →
-    OnOk result (KeepsChild old.at.workspace x old.kept new.kept) → PathCosts v x old new result
+    ReadsName v x mid new.at result → OnOk result (HoldsKeptParent v new.at.image.contents new.at.workspace new.kept) →
+    OnOk result (StoresChild old.at.workspace x old.kept new.kept) → PathCosts v x old new result
 costs_name {v = v} {old = old} {new = new} {mid = mid} {result = result} of kept same name right child =
     let reads = kept.reads.reads in
     let part = λ (b : List ℕ) (k : KnowsPlaces v old.at.image.contents old.at.workspace b).
@@ -81,7 +81,7 @@ on_all (Err e) P h = tt
 
 -- its path is read anew, and what was kept stays
 pub costs_none : {T : Type 0} {v : Layout} {x : ℕ} {old new : WorkMoment} {result : Result T ImageFault}
-    (s : KeptParent) → ((p : ℕ) → IsParentOf old.workspace x p → ⊥) → KeepsParent v old.image.contents old.workspace s →
+    (s : KeptParent) → ((p : ℕ) → IsParentOf old.workspace x p → ⊥) → HoldsKeptParent v old.image.contents old.workspace s →
     ReadsNames v x old new result → PathCosts v x (record { at = old; kept = s }) (record { at = new; kept = s }) result
 costs_none {result = result} s none right left = record {
   leaves = record {

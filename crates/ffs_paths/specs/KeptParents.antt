@@ -4,7 +4,7 @@ use Rattle.std.specs.Prelude.{slice_index}
 use Rattle.ffs_workspace.specs.Moments.{WorkMoment, work_moment}
 use Rattle.ffs_image.specs.{Device.Device, declared.image.{Image.Ghosts, ImageFault.ImageFault}}
 use Rattle.ffs_volume.specs.{declared.Layout.Layout, Directories.{Graph.Graph, Parents.graph_of, Paths.path_names}}
-use Rattle.ffs_volume.specs.{Directories.Volumes.volume_of, Report.Reads.path_reads, Encodings.Places.place_in}
+use Rattle.ffs_volume.specs.{Directories.Volumes.volume_of, Report.Reads.path_reads, Encodings.Places.part_in}
 use Rattle.ffs_workspace.specs.{declared.workspace.Workspace.Workspace, Ready.CanRead, Holds.{HoldsClaims, HoldsSurvey}}
 use Rattle.ffs_paths.specs.{Climbing.IsParentOf, DirectoryPaths.IsPathOf, Reads.{HoldsPlaceOf, KnowsPlaces, names_to}}
 use Rattle.ffs_paths.specs.{Reads.{OnlyReads, ReadsAtMost, ReadsNames}, Slashes.HaveNoSlash}
@@ -25,24 +25,24 @@ pub record IsKeptParent (g : Graph) (s : KeptParent) : Type 0 where
 
 -- that is right in the volume, where the image gives its bytes and the workspace holds what the
 -- block check and the survey leave
-pub record KeepsParent (v : Layout) (contents : Option (List ℕ)) (w : Workspace) (s : KeptParent) : Type 0 where
+pub record HoldsKeptParent (v : Layout) (contents : Option (List ℕ)) (w : Workspace) (s : KeptParent) : Type 0 where
   pub right : (b : List ℕ) → contents ≡ Some b → HoldsClaims v b w → HoldsSurvey v b w
       → IsKeptParent (graph_of (volume_of v b)) s
 
 -- the same places are noted
 abbrev pub SamePlaces : Workspace → Workspace → Type 0
 SamePlaces old new =
-    (x : ℕ) → place_in (slice_index new.queue.items x) ≡ place_in (slice_index old.queue.items x)
+    (x : ℕ) → part_in (slice_index new.queue.items x) ≡ part_in (slice_index old.queue.items x)
 
 -- paths can be made: the windows hold what the image gives, and what is kept of the parent is right
 pub record ReadyWith (v : Layout) (d : Device) (w : Workspace) (s : KeptParent) : Type 0 where
   pub ready : CanRead v d w
-  pub kept_parent : KeepsParent v d.contents w s
+  pub kept_parent : HoldsKeptParent v d.contents w s
 
 -- a path of the inode x can be made
 pub record ReadyToPath (v : Layout) (d : Device) (w : Workspace) (s : KeptParent) (x : ℕ) : Type 0 where
   pub ready : CanRead v d w
-  pub kept_parent : KeepsParent v d.contents w s
+  pub kept_parent : HoldsKeptParent v d.contents w s
   pub number : x < v.ncg * v.ipg
 
 -- a path of the inode x can be made by that of its parent p, which the survey found
@@ -56,15 +56,15 @@ pub record PathLeaves {T : Type 0} (v : Layout) (most : ℕ) (old new : WorkMome
     (result : Result T ImageFault) : Type 0 where
   pub reads : OnlyReads v old.image new.image old.workspace new.workspace result
   pub counted : ReadsAtMost v most old new
-  pub kept_parent : OnOk result (KeepsParent v new.image.contents new.workspace s)
+  pub kept_parent : OnOk result (HoldsKeptParent v new.image.contents new.workspace s)
 
 -- a call keeps the path of the directory x, as that of the next one's parent
-pub record KeepsPathOf {T : Type 0} (v : Layout) (x : ℕ) (old new : WorkMoment) (s : KeptParent)
+pub record StoresPathOf {T : Type 0} (v : Layout) (x : ℕ) (old new : WorkMoment) (s : KeptParent)
     (result : Result T ImageFault) : Type 0 where
   -- x is the parent that is kept
   pub parent : OnOk result (s.parent ≡ x)
   -- and what is kept of it is right
-  pub kept_parent : OnOk result (KeepsParent v new.image.contents new.workspace s)
+  pub kept_parent : OnOk result (HoldsKeptParent v new.image.contents new.workspace s)
   -- it only reads: a read at most for each name of that path, and no more than the way up takes
   pub reads : ReadsNames v x old new result
 
@@ -92,7 +92,7 @@ pub record SparesReads (v : Layout) (x : ℕ) (old new : KeptMoment) : Type 0 wh
       → new.at.reads ≤ old.at.reads
 
 -- the path of the parent of x is kept then, and x with it; where x has no parent, what was kept before
-pub record KeepsChild (w : Workspace) (x : ℕ) (s s' : KeptParent) : Type 0 where
+pub record StoresChild (w : Workspace) (x : ℕ) (s s' : KeptParent) : Type 0 where
   pub parent : (p : ℕ) → IsParentOf w x p → (s'.parent ≡ p) × (s'.child ≡ x)
   pub same : ((p : ℕ) → IsParentOf w x p → ⊥) → s' ≡ s
 
@@ -109,6 +109,6 @@ pub record PathCosts {T : Type 0} (v : Layout) (x : ℕ) (old new : KeptMoment) 
   -- at most a read for each name, one where the parent's path is kept, none where the window has the name, too
   pub spares : SparesReads v x old new
   -- the path of that parent is kept then, and x with it
-  pub keeps : OnOk result (KeepsChild old.at.workspace x old.kept new.kept)
+  pub keeps : OnOk result (StoresChild old.at.workspace x old.kept new.kept)
   -- and the window holds the part of the place of x
   pub held : OnOk result (HoldsPlaceThen v x old.at new.at)

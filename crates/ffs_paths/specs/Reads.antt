@@ -1,11 +1,11 @@
 -- What a call that only reads the image leaves of a workspace, and how often it reads.
-use Rattle.std.specs.Prelude.{◌≡◌, suc, ◌+◌, ◌*◌, ◌/◌, ◌<◌, ◌≤◌, ℕ, List, Option, Result, Some, true, OnOk, slice_index}
+use Rattle.std.specs.Prelude.{◌≡◌, suc, ◌+◌, ◌-◌, ◌*◌, ◌/◌, ◌<◌, ◌≤◌, ℕ, List, Option, Result, Some, true, OnOk, slice_index}
 use Rattle.std.specs.Option.{unwrap_or}
-use Rattle.ffs_image.specs.{Device.{Device, ForContents}, Known.IsContents, Reads.ReadAfter, declared.image.ImageFault.ImageFault}
+use Rattle.ffs_image.specs.{Device.{Device, ForContents}, Known.IsContents, Reads.{ReadAfter, ReadsAtMostOnce}, declared.image.ImageFault.ImageFault}
 use Rattle.ffs_volume.specs.declared.{constants.TheConstants.MAXPATHLEN, Layout.Layout}
 use Rattle.ffs_volume.specs.Directories.{Graph.{Graph, level}, Parents.graph_of, Volumes.volume_of}
 use Rattle.ffs_workspace.specs.declared.workspace.Workspace.{Workspace}
-use Rattle.ffs_volume.specs.{Encodings.Places.{AreNoted, IsNoted, part_size, place_in}, Report.DirectoryReads.directory_cost}
+use Rattle.ffs_volume.specs.{Encodings.Places.{AreNoted, IsNoted, part_size, part_in}, Report.DirectoryReads.directory_cost}
 use Rattle.ffs_workspace.specs.{Found.WithSurvey, Moments.WorkMoment, Ready.CanRead}
 use Rattle.ffs_workspace.specs.Holds.{bool_at, HoldsClaims, HoldsSurvey}
 
@@ -48,7 +48,7 @@ pub record OnlyReadsFew {T : Type 0} (v : Layout) (most : ℕ) (old new : WorkMo
 
 -- the window of other directories holds the part that is noted as the place of x, if one is noted
 abbrev pub HoldsPlaceOf : Layout → Workspace → (x : ℕ) → Type 0
-HoldsPlaceOf v w x = (k : ℕ) → place_in (slice_index w.queue.items x) ≡ suc k
+HoldsPlaceOf v w x = (k : ℕ) → part_in (slice_index w.queue.items x) ≡ suc k
     → (w.windows.other.place ≡ part_size v * k) × (w.windows.other.length ≡ part_size v)
 
 -- the part with the place of x is read once at most, and not where the window holds it; then it holds it
@@ -67,6 +67,12 @@ pub record ReadsPlace {T : Type 0} (v : Layout) (x : ℕ) (old new : WorkMoment)
   pub again : HoldsPlaceOf v old.workspace x → new.reads ≤ old.reads
   pub held : ForContents old.image.contents
       (λ b. IsNoted v b old.workspace.queue.items x → OnOk result (HoldsPlaceOf v new.workspace x))
+
+-- an image was asked for the part that is noted as the place of x, once at most, and for nothing else
+abbrev pub AsksForPlace : {I : Type 0} → (was_read : I → ℕ → ℕ → I → Type 0) → Layout → Workspace → (x : ℕ) → (old new : I)
+    → Type 0
+AsksForPlace was_read v w x old new = ReadsAtMostOnce was_read
+    (part_size v * (part_in (slice_index w.queue.items x) - 1)) (part_size v) old new
 
 -- a call for the name of the directory x reads the part of its place alone, where that is noted
 pub record ReadsName {T : Type 0} (v : Layout) (x : ℕ) (old new : WorkMoment) (result : Result T ImageFault) :

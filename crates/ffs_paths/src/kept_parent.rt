@@ -5,7 +5,7 @@ ghost use Rattle.ffs_workspace.specs.Moments.{work_moment};
 ghost use Rattle.ffs_volume.specs.{declared.Layout.Layout, Directories.Paths.dir_path};
 ghost use Rattle.ffs_workspace.specs.declared.workspace.Workspace.{Workspace as WorkspaceIn};
 ghost use Rattle.ffs_paths.specs.{Climbing.IsParentOf, DirectoryPaths.IsPathOf, Reads.{ForTree}};
-ghost use Rattle.ffs_paths.specs.KeptParents.{CanKeepChild, HasPathOf, KeepsParent, KeepsPathOf, kept_moment};
+ghost use Rattle.ffs_paths.specs.KeptParents.{CanKeepChild, HasPathOf, HoldsKeptParent, StoresPathOf, kept_moment};
 ghost use Rattle.ffs_paths.specs.KeptParents.{PathCosts, ReadyToPath};
 
 use crate::buffer::{PathBuffer, PathText};
@@ -52,7 +52,7 @@ impl KeptParent {
     /// No path is kept.
     pub fn none() -> KeptParent
         ensures { (v : Layout) (contents : Option (List ℕ)) (w : WorkspaceIn)
-            → KeepsParent v contents w result }
+            → HoldsKeptParent v contents w result }
     {
         KeptParent {
             parent: 0,
@@ -75,12 +75,12 @@ impl KeptParent {
     ) -> Result<(), ImageFault>
         requires { ReadyToPath geometry.now.layout (I.device image.old) workspace.old self.old
             dir }
-        ensures keeps { KeepsPathOf geometry.now.layout dir
+        ensures keeps { StoresPathOf geometry.now.layout dir
             (work_moment I.Image image.old workspace.old)
             (work_moment I.Image image.new workspace.new) self.new result }
         ensures same { HasPathOf self.old dir
             → (image.new ≡ image.old) × (workspace.new ≡ workspace.old) }
-        ensures still { OnErr result (KeepsParent geometry.now.layout
+        ensures still { OnErr result (HoldsKeptParent geometry.now.layout
             (I.device image.new).contents workspace.new self.new) }
     {
         if self.parent == dir {
@@ -113,7 +113,7 @@ impl KeptParent {
         ensures costs { PathCosts geometry.now.layout dir
             (kept_moment I.Image image.old workspace.old self.old)
             (kept_moment I.Image image.new workspace.new self.new) result }
-        ensures still { OnErr result (KeepsParent geometry.now.layout
+        ensures still { OnErr result (HoldsKeptParent geometry.now.layout
             (I.device image.new).contents workspace.new self.new) }
     {
         self.keep_path_of(geometry, image, workspace, parent)?;
@@ -142,7 +142,7 @@ impl KeptParent {
         ensures costs { PathCosts geometry.now.layout dir
             (kept_moment I.Image image.old workspace.old self.old)
             (kept_moment I.Image image.new workspace.new self.new) result }
-        ensures still { OnErr result (KeepsParent geometry.now.layout
+        ensures still { OnErr result (HoldsKeptParent geometry.now.layout
             (I.device image.new).contents workspace.new self.new) }
     {
         let Some(parent) = reached_parent(workspace, dir) else {
@@ -172,7 +172,7 @@ impl KeptParent {
         ensures costs { PathCosts geometry.now.layout dir
             (kept_moment I.Image image.old workspace.old self.old)
             (kept_moment I.Image image.new workspace.new self.new) result }
-        ensures still { OnErr result (KeepsParent geometry.now.layout
+        ensures still { OnErr result (HoldsKeptParent geometry.now.layout
             (I.device image.new).contents workspace.new self.new) }
     {
         let Some(parent) = reached_parent(workspace, dir) else {

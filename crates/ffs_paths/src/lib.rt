@@ -12,6 +12,10 @@
 //! parent's path, and one for the directory's own name. Where some places aren't noted, `path_of`
 //! may read all of a parent too for a name: its inode and each of its Runs.
 //!
+//! ```text
+//! path_of(&geometry, &mut image, &mut workspace, 2, Some(b"file"), &mut text)?; // "/file"
+//! ```
+//!
 //! It rests on `ffs_names` and `ffs_workspace`.
 #![tactic(auto)]
 

@@ -9,7 +9,7 @@ ghost use Rattle.ffs_volume.specs.{declared.constants.TheConstants.DIRBLKSIZ, Re
 ghost use Rattle.ffs_layout.specs.Entry.{entry_value};
 ghost use Rattle.ffs_workspace.specs.Found.{WithClaims};
 ghost use Rattle.ffs_paths.specs.{Climbing.{FindsFirstName, FindsName, FindsNoted, IsNameIn}, NameTexts.name_bytes};
-ghost use Rattle.ffs_paths.specs.Reads.{ForTree, CanReadFor, OnlyReads, ReadsName, ReadsPlace};
+ghost use Rattle.ffs_paths.specs.Reads.{AsksForPlace, ForTree, CanReadFor, OnlyReads, ReadsName, ReadsPlace};
 
 use crate::name_text::NameText;
 use ffs_image::{Image, ImageFault};
@@ -72,7 +72,7 @@ fn find_in_chunks(order: Order, bytes: &[u8], number: u32, name: &mut NameText) 
 
 /// Finds the name of a directory in its parent, in the part of the image that is noted as the place
 /// of it. Returns whether it is there.
-#[tactic(auto, using(ffs_workspace::proofs::PartLaws::part_in_block))]
+#[tactic(auto, using(ffs_workspace::proofs::PartLaws::part_in_block), unfolding(ffs_image::specs::Reads::ReadsAtMostOnce))]
 fn find_by_place<I: Image>(
     geometry: &Geometry,
     image: &mut I,
@@ -86,6 +86,8 @@ fn find_by_place<I: Image>(
     ensures leaves { ReadsPlace geometry.now.layout dir
         (work_moment I.Image image.old workspace.old) (work_moment I.Image image.new workspace.new)
         result }
+    ensures asks { AsksForPlace I.was_read geometry.now.layout workspace.old dir image.old
+        image.new }
 {
     let Some(part) = noted_part(workspace.queue[dir as usize]) else {
         return Ok(false);

@@ -2,7 +2,8 @@
 use Rattle.std.proofs.Common.{◌≡◌, refl, ◌∙◌, sym, ℕ, List, [], ◌++◌, append_assoc, append-nil, Result, Ok, Err, arith}
 use Rattle.std.proofs.Common.{◌∷◌}
 use Rattle.ffs_volume.specs.Messages.Kinds.{Message}
-use Rattle.ffs_report.specs.{Progress.{Progress, Said, Stopped}, Known.ForBytes, PhaseOutcome.{SaidTo, SaidOf}}
+use Rattle.ffs_report.specs.{Progress.{Progress, Said, Stopped}, PhaseOutcome.{SaidTo, SaidOf}}
+use Rattle.ffs_image.specs.Known.{ForBytes}
 use Rattle.ffs_report.specs.PhaseOutcome.{HeadingFirst, PhaseReports, SaidPrefixOf, StoppedOf}
 use Rattle.ffs_report.proofs.Reports.{said_none}
 use Rattle.ffs_report.{proofs.Reports.{said_then, stopped_after, stopped_more}, specs.declared.fault.RunFault.RunFault}

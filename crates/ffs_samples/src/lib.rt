@@ -250,6 +250,8 @@ impl<I: Image + Drop> Image for Watched<I> {
 
     ghost reads = { λ w. I.reads w.inner };
 
+    ghost was_read = { λ w at size after. I.was_read w.inner at size after.inner };
+
     ghost sized = { λ w. I.sized w.inner };
 
     fn size(&self) -> u64 {

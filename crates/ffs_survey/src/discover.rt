@@ -109,7 +109,8 @@ fn is_calm_plain(entry: EntryHead, current: &LentDir, lists: &Lists) -> bool
         && is_calm_kind(entry.kind, number, lists.reached)
 }
 
-/// Whether nothing can be reported of the entry at an index of the current directory.
+/// Whether nothing can be reported of the entry at an index of the current directory. The first two
+/// must be `.` and `..`.
 fn is_calm_entry(entry: EntryHead, index: u32, current: &LentDir, lists: &Lists) -> bool
     requires { current.now.kinds.now ≡ lists.now.kinds.now }
     ensures { result ≡ is_calm_entry (current_of current.now)

@@ -9,6 +9,10 @@
 //! directory of each cycle of parents. `is_plain` asks this of an entry, `is_dir`, `is_suspect` and
 //! `is_dead` of an inode, and `is_unref` of a directory, by all that was `Surveyed`.
 //!
+//! ```text
+//! survey(&mut directories, &inodes, &mut found)?;
+//! ```
+//!
 //! Its modules, each over those before it:
 //!
 //! - `entry_head` is what a survey is given of an entry, and `directories` the trait of a reader.

@@ -9,7 +9,7 @@ use ffs_connectivity::phase3;
 use ffs_image::{Image, MemoryImage};
 use ffs_layout::{Geometry, Order};
 use ffs_pathnames::phase2;
-use ffs_report::{Counted, Output, Report, RunFault};
+use ffs_report::{Counted, FuseWriter, Output, Report, RunFault};
 use ffs_samples::{Number, Watched, geometry, put};
 use ffs_workspace::Workspace;
 use std::alloc::{AllocError, Global};
@@ -252,5 +252,61 @@ fn dups_stay_known(rt: HostRuntime) -> Result<(), Fail> {
         &answers_with(&geometry, &TEN_BAD, rt.alloc())?,
         &[false; 4],
     );
+    Ok(())
+}
+
+/// What two calls of phase 1b print of the image in which two fragments are shared, where the
+/// output of the first one stops after so many bytes, and whether that one failed.
+fn rescanned_twice(
+    geometry: &Geometry,
+    bytes: u64,
+    alloc: Global,
+) -> Result<(bool, Vec<u8>, Vec<u8>), Fail>
+    requires { geometry.now.layout.size * geometry.now.layout.fsize ≤ 131072 }
+{
+    let mut image = image_with(&SHARED_TWICE, alloc)?;
+    let mut workspace = Workspace::new(alloc, geometry)?;
+    let mut dropped = Counted::new(Vec::new(alloc));
+    phase1(
+        geometry,
+        &mut image,
+        &mut workspace,
+        &mut Report::new(&mut dropped),
+    )?;
+    let mut first = FuseWriter::new(Vec::new(alloc), bytes);
+    let mut out = Counted::new(&mut first);
+    let stopped = phase1b(
+        geometry,
+        &mut image,
+        &mut workspace,
+        &mut Report::new(&mut out),
+    );
+    let mut second = Vec::new(alloc);
+    let mut out = Counted::new(&mut second);
+    phase1b(
+        geometry,
+        &mut image,
+        &mut workspace,
+        &mut Report::new(&mut out),
+    )?;
+    Ok((stopped.is_err(), first.into_inner(), second))
+}
+
+/// A line in which the output failed is printed by a second call of phase 1b, and so is each that
+/// comes after it; one that was printed whole isn't printed again.
+#[test]
+fn phase1b_continues(rt: HostRuntime) -> Result<(), Fail> {
+    let geometry = geometry(Order::Little)?;
+    let heading = b"** Phase 1b - Rescan For More DUPS\n".as_slice();
+    let cases: [(u64, &[u8], &[u8]); 2] = [
+        (38, b"37 ", b"37 DUP I=3\n38 DUP I=4\n"),
+        (49, b"37 DUP I=3\n38 ", b"38 DUP I=4\n"),
+    ];
+    for &(bytes, before, after) in &cases {
+        let (failed, first, second) = rescanned_twice(&geometry, bytes, rt.alloc())?;
+        same(&rt, &failed, &true);
+        same(&rt, &first.strip_prefix(heading), &Some(before));
+        same(&rt, &second.strip_prefix(heading), &Some(after));
+    }
     Ok(())
 }

@@ -102,6 +102,8 @@ impl Image for TurningImage {
 
     ghost reads = { λ _. 0 };
 
+    ghost was_read = { λ _ _ _ _. Unit {0} };
+
     ghost sized = { λ _. tt };
 
     fn size(&self) -> u64 {

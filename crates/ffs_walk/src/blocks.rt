@@ -1,5 +1,8 @@
 //! The indirect blocks that a walk is in.
 
+ghost use Rattle.std.specs.Prelude.{◌*◌};
+ghost use Rattle.ffs_image.specs.Reads.{ReadsAtMostOnce};
+
 use ffs_image::{Image, ImageFault};
 use ffs_layout::Geometry;
 use ffs_memory::FixedList;
@@ -33,7 +36,7 @@ impl Blocks {
     ///
     /// # Errors
     /// A read of the image that failed. The level holds nothing then.
-    #[tactic(auto, using(crate::proofs::Areas::block_fits))]
+    #[tactic(auto, using(crate::proofs::Areas::block_fits), unfolding(ffs_image::specs::Reads::ReadsAtMostOnce))]
     pub fn fill<I: Image>(
         &mut self,
         geometry: &Geometry,
@@ -42,8 +45,10 @@ impl Blocks {
         image: &mut I,
     ) -> Result<(), ImageFault>
         requires { CanFill geometry.now.layout (I.device image.old) level address self.old }
-        ensures { FillsBlock geometry.now.layout level address
+        ensures fills { FillsBlock geometry.now.layout level address
             (image_with I.Image image.old self.old) (image_with I.Image image.new self.new) result }
+        ensures asks { ReadsAtMostOnce I.was_read (address * geometry.now.layout.fsize)
+            geometry.now.layout.bsize image.old image.new }
     {
         if self.held[level] == Some(address) {
             return Ok(());

@@ -3,6 +3,7 @@
 //! blocks by their addresses, and has a buffer of its own.
 
 ghost use Rattle.std.specs.Prelude.{◌≡◌, ◌≤◌, ◌↔◌, IsTrue, vec_len};
+ghost use Rattle.ffs_image.specs.Reads.{ReadsAtMostOnce};
 
 use ffs_image::{Image, ImageFault};
 use ffs_memory::FixedList;
@@ -43,6 +44,7 @@ impl Window {
     ///
     /// # Errors
     /// A read of the image that failed. The window holds nothing then.
+    #[tactic(auto, unfolding(ffs_image::specs::Reads::ReadsAtMostOnce))]
     pub fn fill<I: Image>(
         &mut self,
         image: &mut I,
@@ -52,6 +54,7 @@ impl Window {
         requires { CanFillWindow (I.device image.old) place length self.old }
         ensures fills { FillsWindow place length (image_with I.Image image.old self.old)
             (image_with I.Image image.new self.new) result }
+        ensures asks { ReadsAtMostOnce I.was_read place length image.old image.new }
     {
         if self.is_at(place, length) {
             return Ok(());

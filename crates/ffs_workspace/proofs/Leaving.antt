@@ -1,7 +1,7 @@
 -- What a workspace holds is held by one with the same findings.
 use Rattle.std.{proofs.{Common.{arith, ◌≡◌, ℕ, List, false, true}, lemmas.Bool.both_ways}, specs.Prelude.slice_index}
 use Rattle.ffs_volume.specs.{declared.Layout.Layout, Encodings.Links.start_at}
-use Rattle.ffs_workspace.specs.{declared.workspace.Workspace.Workspace, Holds.{HoldsClaims, HoldsCounts, HoldsFindings, HoldsPhase1}}
+use Rattle.ffs_workspace.specs.{declared.workspace.Workspace.Workspace, Holds.{HoldsClaims, HoldsCounts, HoldsFindings}}
 use Rattle.ffs_workspace.specs.Holds.{HoldsReferences, HoldsSurvey, HoldsTree, IsFresh}
 use Rattle.ffs_workspace.specs.Leaves.{LeavesBlockCheck, LeavesFindings, LeavesSurvey}
 

@@ -5,7 +5,7 @@ use Rattle.std.specs.{Prelude.slice_index, List.list_any, Int.Bits.{bit_and, or_
 use Rattle.std.proofs.lemmas.Nat.Bits.{and_pow}
 use Rattle.ffs_volume.specs.{declared.Layout.Layout, Directories.{Entries.Entry, Graph.is_naming_entry}}
 use Rattle.ffs_volume.specs.Directories.Roles.{RoledEntry, is_plain, role_of, roled_from}
-use Rattle.ffs_volume.specs.Encodings.Places.{ArePlaces, name_in}
+use Rattle.ffs_volume.specs.Encodings.Places.{AreParts, name_in}
 
 -- one entry: its name, or that of the first one after it
 pub name_in-cons : (x : ℕ) (e : RoledEntry) (es : List RoledEntry) →
@@ -76,7 +76,7 @@ or_due word h =
     omega arith
 
 -- words that are all 0 note no place
-pub none_noted : (v : Layout) (b words : List ℕ) → ((x : ℕ) → slice_index words x ≡ 0) → ArePlaces v b words
+pub none_noted : (v : Layout) (b words : List ℕ) → ((x : ℕ) → slice_index words x ≡ 0) → AreParts v b words
 none_noted v b words nothing x p k there is = grind arith
 
 -- a list of zeros
@@ -85,5 +85,5 @@ zero_index zero x = refl
 zero_index (suc n) zero = refl
 zero_index (suc n) (suc x) = zero_index n x
 
-pub filled_noted : (v : Layout) (b words : List ℕ) (n : ℕ) → words ≡ replicate n 0 → ArePlaces v b words
+pub filled_noted : (v : Layout) (b words : List ℕ) (n : ℕ) → words ≡ replicate n 0 → AreParts v b words
 filled_noted v b words n e = none_noted v b words (λ x. ap (λ ws. slice_index ws x) e ∙ zero_index n x)

@@ -2,12 +2,12 @@
 use Rattle.std.proofs.Common.{arith, ◌≡◌}
 use Rattle.ffs_volume.specs.declared.Layout.{Layout}
 use Rattle.ffs_image.specs.Device.{Device}
-use Rattle.ffs_workspace.specs.{declared.{table.Table.Table, workspace.Workspace.Workspace}, Ready.{CanRead, IsReady}}
-use Rattle.ffs_workspace.specs.Tables.{KeepsTable}
+use Rattle.ffs_workspace.specs.{declared.{table.Table.Table, workspace.Workspace.Workspace}, Ready.{CanRead}}
+use Rattle.ffs_workspace.specs.Tables.{TableHolds}
 
 -- where a block of the inode table was read
 pub can_read_table : (v : Layout) (d d' : Device) (w : Workspace) (t : Table) → d'.contents ≡ d.contents →
-    d'.size ≡ d.size → KeepsTable v d'.contents t → CanRead v d w →
+    d'.size ≡ d.size → TableHolds v d'.contents t → CanRead v d w →
     CanRead v d' (record w { windows = record w.windows { table = t } })
 can_read_table v d d' w t e size kept r = grind arith
 

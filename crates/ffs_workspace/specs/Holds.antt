@@ -3,7 +3,7 @@ use Rattle.std.specs.{Prelude.{◌≡◌, ◌<◌, ◌+◌, ℕ, false, true, Li
 use Rattle.ffs_volume.specs.{declared.Layout.Layout, Blocks.{Inodes.inodes_of, Claims.{Claims, all_claims}}}
 use Rattle.ffs_volume.specs.Directories.{Graph.{is_named, reached, parent}, Roles.references, Parents.graph_of}
 use Rattle.ffs_volume.specs.{Directories.Volumes.{marked_at, marked_by_phase1_at, volume_of}, Encodings.Kinds.kind_at}
-use Rattle.ffs_volume.specs.Encodings.{Links.start_at, Places.ArePlaces, Notes.note_at}
+use Rattle.ffs_volume.specs.Encodings.{Links.start_at, Places.AreParts, Notes.note_at}
 use Rattle.ffs_workspace.specs.declared.workspace.Workspace.{Workspace}
 use Rattle.ffs_maps.specs.Bits.{bits_of}
 pub use Rattle.ffs_volume.specs.Encodings.Lists.{bool_at}
@@ -57,7 +57,7 @@ pub record HoldsTree (v : Layout) (image : List ℕ) (w : Workspace) : Type 0 wh
 -- entry. How often inodes are referred to is apart (`HoldsReferences`): phase 3 doesn't ask it
 pub record HoldsSurvey (v : Layout) (image : List ℕ) (w : Workspace) : Type 0 where
   pub tree : HoldsTree v image w
-  pub places : ArePlaces v image w.queue.items
+  pub places : AreParts v image w.queue.items
 
 -- before the survey each count of references is where it starts; what the survey has found stays,
 -- so that a second one needn't count again

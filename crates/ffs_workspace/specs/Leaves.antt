@@ -1,6 +1,6 @@
 -- What the phases after the block check, and after the survey of directories, leave of a workspace.
 use Rattle.std.specs.Prelude.{◌≡◌, ℕ, List}
-use Rattle.ffs_volume.specs.{declared.Layout.Layout, Encodings.Places.ArePlaces}
+use Rattle.ffs_volume.specs.{declared.Layout.Layout, Encodings.Places.AreParts}
 use Rattle.ffs_workspace.specs.declared.workspace.Workspace.{Workspace}
 
 -- what the block check left is as it was: claims, duplicates, kinds, marks and notes, and what
@@ -28,4 +28,4 @@ pub record LeavesFindings (old new : Workspace) : Type 0 where
 -- and each place that is noted is right where each one was
 pub record LeavesSurvey (old new : Workspace) : Type 0 where
   pub findings : LeavesFindings old new
-  pub places : (v : Layout) (b : List ℕ) → ArePlaces v b old.queue.items → ArePlaces v b new.queue.items
+  pub places : (v : Layout) (b : List ℕ) → AreParts v b old.queue.items → AreParts v b new.queue.items

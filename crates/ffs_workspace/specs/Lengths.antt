@@ -3,7 +3,7 @@ use Rattle.std.specs.Prelude.{◌≡◌, ◌*◌, ◌==◌, ℕ, Bool, not, List
 use Rattle.ffs_volume.specs.{declared.Layout.Layout, Blocks.{Inodes.inodes_of, BlockCheck.set_count}}
 use Rattle.ffs_maps.specs.Bits.{bits_of}
 use Rattle.ffs_walk.specs.Windows.{WindowHolds, BlocksHold}
-use Rattle.ffs_workspace.specs.{declared.workspace.Workspace.Workspace, Tables.KeepsTable}
+use Rattle.ffs_workspace.specs.{declared.workspace.Workspace.Workspace, Tables.TableHolds}
 
 -- some fragment has a DUP line, and its first kept offer isn't reported yet
 abbrev pub has_unreported_dups : Workspace → Bool
@@ -29,7 +29,7 @@ pub record IsFor (v : Layout) (w : Workspace) : Type 0 where
 
 -- the windows hold what the image gives
 pub record HoldWindows (v : Layout) (contents : Option (List ℕ)) (w : Workspace) : Type 0 where
-  pub table : KeepsTable v contents w.windows.table
+  pub table : TableHolds v contents w.windows.table
   pub blocks : BlocksHold v contents w.windows.blocks
   pub current : WindowHolds contents w.windows.current
   pub other : WindowHolds contents w.windows.other

@@ -5,7 +5,7 @@ use Rattle.ffs_memory.specs.Account.{Account, Asks}
 use Rattle.ffs_volume.specs.{declared.Layout.Layout, Blocks.Inodes.inodes_of}
 use Rattle.ffs_walk.specs.Windows.{BlocksHold, WindowHolds}
 use Rattle.ffs_workspace.specs.{declared.workspace.{Windows.Windows, Workspace.Workspace}, Holds.IsFresh, Lengths.IsFor}
-use Rattle.ffs_workspace.specs.{Lengths.HoldWindows, Tables.KeepsTable}
+use Rattle.ffs_workspace.specs.{Lengths.HoldWindows, Tables.TableHolds}
 
 -- its lists and windows have the lengths of the volume, and the image has all of the volume: what a phase
 -- needs. Its windows may hold what another image gave
@@ -51,6 +51,10 @@ pub record IsNew (v : Layout) (w : Workspace) : Type 0 where
   pub uncounted : IsUncounted w
   pub windows : (contents : Option (List ℕ)) → HoldWindows v contents w
 
+-- how often the memory for a workspace is asked for: for two maps, nine lists of inodes and four buffers
+abbrev pub workspace_requests : ℕ
+workspace_requests = 15
+
 -- P holds of what was made in so many bytes of memory, or a request for them was refused
 pub record MakesInMemory {T E : Type 0} (before after : Account) (bytes : ℕ) (result : Result T E) (P : T → Type 0) :
     Type 0 where
@@ -63,7 +67,7 @@ pub record AreNewWindows (v : Layout) (w : Windows) : Type 0 where
   pub blocks : vec_len w.blocks.buffer ≡ 3 * v.bsize
   pub current : vec_len w.current.buffer ≡ v.bsize
   pub other : vec_len w.other.buffer ≡ v.bsize
-  pub table_holds : (contents : Option (List ℕ)) → KeepsTable v contents w.table
+  pub table_holds : (contents : Option (List ℕ)) → TableHolds v contents w.table
   pub blocks_hold : (contents : Option (List ℕ)) → BlocksHold v contents w.blocks
   pub current_holds : (contents : Option (List ℕ)) → WindowHolds contents w.current
   pub other_holds : (contents : Option (List ℕ)) → WindowHolds contents w.other

@@ -1,7 +1,7 @@
 -- What the window on the inode table holds.
 use Rattle.std.specs.Prelude.{◌≡◌, ◌*◌, ◌+◌, ◌-◌, ◌/◌, ◌%◌, ◌<◌, ◌≤◌, ℕ, Bool, ◌&&◌, nat_le, nat_lt, List, Option}
 use Rattle.std.specs.{Prelude.{Result, IfOk, IsOk, OnOk, if◌then◌else◌, vec_len}, List.slice_range}
-use Rattle.ffs_image.specs.{Device.{Device, ForContents}, Reads.ReadAfter, declared.image.ImageFault.ImageFault}
+use Rattle.ffs_image.specs.{Device.{Device, ForContents}, Reads.{ReadAfter, ReadsAtMostOnce}, declared.image.ImageFault.ImageFault}
 use Rattle.ffs_memory.specs.declared.fixed_list.FixedList.{FixedList}
 use Rattle.ffs_volume.specs.declared.{constants.TheConstants.{DEV_BSIZE, DINODE_SIZE}, Inode.Inode, Layout.Layout}
 use Rattle.ffs_volume.specs.{Blocks.Inodes.{inode_of, inodes_of}, Disk.{Areas.{cgstart, inode_place}, Numbers.piece}}
@@ -84,7 +84,7 @@ pub record CanReadPiece (v : Layout) (d : Device) (n x : ℕ) (t : Table) : Type
   pub ready : CanReadInodes v d t
 
 -- what is left of the table holds what the image gives
-pub record KeepsTable (v : Layout) (contents : Option (List ℕ)) (t : Table) : Type 0 where
+pub record TableHolds (v : Layout) (contents : Option (List ℕ)) (t : Table) : Type 0 where
   pub made : IsTableOf v t
   pub holds : WindowHolds contents t.window
 
@@ -92,7 +92,7 @@ pub record KeepsTable (v : Layout) (contents : Option (List ℕ)) (t : Table) : 
 -- holds what it gives
 pub record TableAfter {T : Type 0} (v : Layout) (d d' : Device) (t : Table) (result : Result T ImageFault) : Type 0
   where
-    pub kept : KeepsTable v d'.contents t
+    pub kept : TableHolds v d'.contents t
     pub read : ReadAfter d d' result
 
 -- the piece of n inodes of the table that has the inode x is read, by one read at most
@@ -108,7 +108,7 @@ pub record ReadsPiece {T : Type 0} (v : Layout) (n x : ℕ) (old new : ImageWith
 -- what the image gives
 pub record ReadsInode (v : Layout) (d d' : Device) (x : ℕ) (t : Table) (result : Result Inode ImageFault) : Type 0 where
   pub inode : IfOk result (λ i. ForContents d.contents (λ bytes. i ≡ inode_of v bytes x))
-  pub kept : KeepsTable v d'.contents t
+  pub kept : TableHolds v d'.contents t
   pub read : ReadAfter d d' result
 
 -- the bytes of the inode x are in the window, from this place on
@@ -127,6 +127,13 @@ TakesPiece v n x old new result = (HoldsInode old x → new ≡ old) ×
 -- `unfoldable` as `TakesPiece` is
 unfoldable pub FailsInPiece : {T : Type 0} → Layout → (n x : ℕ) → (old : Table) → Result T ImageFault → Type 0
 FailsInPiece v n x old result = (HoldsInode old x → IsOk result) × FailsAt (table_place v n x) result
+
+-- an image was asked for the piece of n inodes that has the inode x: once at most, not where the table held the
+-- inode, and for nothing else. `unfoldable` as `TakesPiece` is
+unfoldable pub AsksForPiece : {I : Type 0} → (was_read : I → ℕ → ℕ → I → Type 0) → Layout → (n x : ℕ) → Table →
+    (old new : I) → Type 0
+AsksForPiece was_read v n x t old new = (HoldsInode t x → new ≡ old)
+    × ReadsAtMostOnce was_read (table_place v n x) (n * DINODE_SIZE) old new
 
 -- the bytes of the inode x are in the window from the place on that is returned. They are read at most
 -- once, with their block, and not where the table held the inode

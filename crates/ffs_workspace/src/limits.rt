@@ -12,9 +12,7 @@ pub const PATH_READS: u64 = MAXPATHLEN as u64 / 2 + 2;
 /// How many reads a message of phase 2 takes at most: two paths and an inode.
 pub const LINE_READS: u64 = 2 * PATH_READS + 1;
 
-/// How many Runs of an inode may claim no fragment: eleven bad ones, and eleven with dup offers. It
-/// is rounded up: the first eleventh of either cuts the inode, so there are 21 at most. 22 is the
-/// sum of the two bounds, for which neither count asks for the other.
+/// How many Runs of an inode may claim no fragment, rounded up (`Report/Memory` of `ffs_volume`).
 pub const RUNS_WITHOUT_CLAIM: u64 = 22;
 
 /// At most how many reads a sweep over all inodes and their blocks makes (`Report/Reads` of

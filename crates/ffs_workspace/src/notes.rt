@@ -6,10 +6,8 @@ ghost use Rattle.ffs_volume.specs.Encodings.Notes.{first_noted, has_one_chunk, n
 use ffs_volume::constants::DIRBLKSIZ;
 use ffs_volume::{Class, Inode};
 
-/// Notes from this number on are addresses, counted from here. No inode keeps so many offers, since
-/// each one that it keeps is of one of three kinds: it claims a fragment that was unused (fewer
-/// than 2^31), it is in a bad Run (at most 8 in each of at most eleven), or it is a dup offer (at
-/// most eleven). So there are fewer than 2^31 + 99; 128 is the next power of two.
+/// Notes from this number on are addresses, counted from here. No inode keeps so many offers:
+/// `first_noted` of `Encodings/Notes` says why.
 const FIRST_NOTED: u32 = (1 << 31) + 128;
 
 /// Only addresses below this one are noted: `FIRST_NOTED` plus an address is then below 2^32.

@@ -1,7 +1,7 @@
 //! Where the parent entry of a directory is in the image, in 32 bits.
 
 ghost use Rattle.std.specs.Prelude.{◌≡◌, ◌≤◌, ◌+◌, ◌*◌, ◌/◌, ◌^◌, ◌<◌, suc, false, true, MatchOption};
-ghost use Rattle.ffs_volume.specs.Encodings.Places.{place_in, is_due, part_size, KeepsPlace};
+ghost use Rattle.ffs_volume.specs.Encodings.Places.{part_in, is_due, part_size, KeepsPart};
 ghost use Rattle.ffs_volume.specs.declared.constants.TheConstants.{DIRBLKSIZ};
 
 use ffs_layout::Geometry;
@@ -18,7 +18,7 @@ const NUMBERED_CHUNKS: u64 = (1 << 31) - 1;
 /// The number of the part of the image that has the parent entry (dir(5)), if a word notes it.
 #[inline(always)]
 pub fn noted_part(word: u32) -> Option<u32>
-    ensures { MatchOption result (place_in word ≡ 0) (λ part. place_in word ≡ suc part) }
+    ensures { MatchOption result (part_in word ≡ 0) (λ part. part_in word ≡ suc part) }
 {
     without_due(word).checked_sub(1)
 }
@@ -32,19 +32,19 @@ pub fn is_due(word: u32) -> bool
     word >= DUE
 }
 
-/// A word with the same place, whose parent entry is due.
+/// A word with the same part, whose parent entry is due.
 #[inline(always)]
 #[tactic(auto, using(crate::proofs::PlaceLaws::or_due))]
 pub fn with_due(word: u32) -> u32
-    ensures { KeepsPlace true word result }
+    ensures { KeepsPart true word result }
 {
     word | DUE
 }
 
-/// A word with the same place, whose parent entry isn't due.
+/// A word with the same part, whose parent entry isn't due.
 #[inline(always)]
 pub fn without_due(word: u32) -> u32
-    ensures { KeepsPlace false word result }
+    ensures { KeepsPart false word result }
 {
     word & !DUE
 }
@@ -63,13 +63,13 @@ pub fn part_size(geometry: &Geometry) -> usize
     geometry.layout.fsize as usize
 }
 
-/// The word that notes the part with the chunk at this place in the image, in bytes. Its parent
-/// entry isn't due.
+/// The word that notes the part of the image which has a chunk, by the place of the chunk in bytes.
+/// The parent entry isn't due.
 #[tactic(auto, using(crate::proofs::PartLaws::part_some, crate::proofs::PartLaws::part_number))]
-pub fn place_of(geometry: &Geometry, chunk: u64) -> u32
-    requires { chunk + DIRBLKSIZ ≤ geometry.now.layout.size * geometry.now.layout.fsize }
-    ensures value { result ≡ chunk / part_size geometry.now.layout + 1 }
+pub fn word_of_part(geometry: &Geometry, place: u64) -> u32
+    requires { place + DIRBLKSIZ ≤ geometry.now.layout.size * geometry.now.layout.fsize }
+    ensures value { result ≡ place / part_size geometry.now.layout + 1 }
     ensures not_due { result < 2 ^ 31 }
 {
-    (chunk / part_size(geometry) as u64) as u32 + 1
+    (place / part_size(geometry) as u64) as u32 + 1
 }

@@ -1,7 +1,8 @@
 //! Inodes, read by pieces of their table. `Table` is the `Window` of `ffs_walk` with the number of
 //! the inode that it starts at; no walk reads an inode, so it is here, beside the notes on inodes.
 
-ghost use Rattle.std.specs.Prelude.{◌≡◌, ◌↔◌, IsTrue};
+ghost use Rattle.std.specs.Prelude.{◌≡◌, ◌*◌, ◌↔◌, IsTrue};
+ghost use Rattle.ffs_image.specs.Reads.{ReadsAtMostOnce};
 ghost use Rattle.ffs_workspace.specs.Tables.{HasPiece, table_place};
 
 use ffs_image::{Image, ImageFault};
@@ -43,7 +44,7 @@ pub struct Table {
 }
 
 impl Table {
-    ghost use Rattle.ffs_workspace.specs.Tables.{CanReadInode, CanReadPiece, DividesBlocks, HoldsInode};
+    ghost use Rattle.ffs_workspace.specs.Tables.{AsksForPiece, CanReadInode, CanReadPiece, DividesBlocks, HoldsInode};
     ghost use Rattle.ffs_workspace.specs.Tables.{IsEmptyTable, LoadsInode, ReadsInodeOnce, ReadsPiece};
     ghost use Rattle.ffs_workspace.specs.Tables.{count_to_read, follows};
     ghost use Rattle.ffs_walk.specs.Windows.{image_with};
@@ -84,8 +85,10 @@ impl Table {
         image: &mut I,
     ) -> Result<(), ImageFault>
         requires { CanReadPiece geometry.now.layout (I.device image.old) count number self.old }
-        ensures { ReadsPiece geometry.now.layout count number
+        ensures reads { ReadsPiece geometry.now.layout count number
             (image_with I.Image image.old self.old) (image_with I.Image image.new self.new) result }
+        ensures asks { ReadsAtMostOnce I.was_read (table_place geometry.now.layout count number)
+            (count * DINODE_SIZE) image.old image.new }
     {
         let place = piece_place(geometry, number, count);
         self.forget();
@@ -99,7 +102,7 @@ impl Table {
     /// Reads the block of the table that has an inode, unless the window holds the inode. Returns
     /// where its bytes are in the window.
     #[inline(always)]
-    #[tactic(auto, using(crate::proofs::TablePlaces::block_divides), unfolding(crate::specs::Tables::TakesPiece, crate::specs::Tables::FailsInPiece))]
+    #[tactic(auto, using(crate::proofs::TablePlaces::block_divides), unfolding(ffs_image::specs::Reads::ReadsAtMostOnce, crate::specs::Tables::AsksForPiece, crate::specs::Tables::TakesPiece, crate::specs::Tables::FailsInPiece))]
     fn load<I: Image>(
         &mut self,
         geometry: &Geometry,
@@ -107,8 +110,10 @@ impl Table {
         image: &mut I,
     ) -> Result<usize, ImageFault>
         requires { CanReadInode geometry.now.layout (I.device image.old) number self.old }
-        ensures { LoadsInode geometry.now.layout number (image_with I.Image image.old self.old)
-            (image_with I.Image image.new self.new) result }
+        ensures loads { LoadsInode geometry.now.layout number
+            (image_with I.Image image.old self.old) (image_with I.Image image.new self.new) result }
+        ensures asks { AsksForPiece I.was_read geometry.now.layout geometry.now.layout.inopb number
+            self.old image.old image.new }
     {
         if !self.has(number) {
             self.read_piece(geometry, number, geometry.layout.inopb, image)?;
@@ -122,7 +127,7 @@ impl Table {
     /// # Errors
     /// A read of the image that failed.
     #[inline(always)]
-    #[tactic(auto, unfolding(crate::specs::Tables::TakesPiece, crate::specs::Tables::FailsInPiece))]
+    #[tactic(auto, unfolding(crate::specs::Tables::AsksForPiece, crate::specs::Tables::TakesPiece, crate::specs::Tables::FailsInPiece))]
     pub fn inode<I: Image>(
         &mut self,
         geometry: &Geometry,
@@ -130,8 +135,10 @@ impl Table {
         image: &mut I,
     ) -> Result<Inode, ImageFault>
         requires { CanReadInode geometry.now.layout (I.device image.old) number self.old }
-        ensures { ReadsInodeOnce geometry.now.layout geometry.now.layout.inopb number
+        ensures inode { ReadsInodeOnce geometry.now.layout geometry.now.layout.inopb number
             (image_with I.Image image.old self.old) (image_with I.Image image.new self.new) result }
+        ensures asks { AsksForPiece I.was_read geometry.now.layout geometry.now.layout.inopb number
+            self.old image.old image.new }
     {
         let at = self.load(geometry, number, image)?;
         let bytes = self.window.bytes();
@@ -170,7 +177,7 @@ impl Table {
     /// # Errors
     /// A read of the image that failed.
     #[inline(always)]
-    #[tactic(auto, unfolding(crate::specs::Tables::TakesPiece, crate::specs::Tables::FailsInPiece))]
+    #[tactic(auto, unfolding(ffs_image::specs::Reads::ReadsAtMostOnce, crate::specs::Tables::AsksForPiece, crate::specs::Tables::TakesPiece, crate::specs::Tables::FailsInPiece))]
     pub fn inode_by_part<I: Image>(
         &mut self,
         geometry: &Geometry,
@@ -178,8 +185,10 @@ impl Table {
         image: &mut I,
     ) -> Result<Inode, ImageFault>
         requires { CanReadInode geometry.now.layout (I.device image.old) number self.old }
-        ensures { ReadsInodeOnce geometry.now.layout (count_to_read self.old number) number
+        ensures inode { ReadsInodeOnce geometry.now.layout (count_to_read self.old number) number
             (image_with I.Image image.old self.old) (image_with I.Image image.new self.new) result }
+        ensures asks { AsksForPiece I.was_read geometry.now.layout (count_to_read self.old number)
+            number self.old image.old image.new }
     {
         if !self.has(number) {
             let count = self.count_to_read(number);

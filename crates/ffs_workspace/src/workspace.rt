@@ -3,7 +3,7 @@
 ghost use Rattle.std.specs.Prelude.{◌≡◌, ◌+◌, ◌*◌, ◌<◌, ◌≤◌, [], ◌∷◌, IfOk, false, slice_index, vec_len};
 ghost use Rattle.ffs_layout.specs.declared.geometry.Geometry.{Geometry};
 ghost use Rattle.ffs_volume.specs.{declared.Layout.Layout, Report.Memory.held_limit};
-ghost use Rattle.ffs_workspace.specs.Ready.{MakesInMemory};
+ghost use Rattle.ffs_workspace.specs.Ready.{MakesInMemory, workspace_requests};
 ghost use Rattle.ffs_memory.specs.Account.{IsFilled};
 
 use crate::notes::cut_in;
@@ -134,8 +134,9 @@ impl Workspace {
         ensures made { MakesInMemory (M.account memory.old) (M.account memory.new)
             (held_of geometry.now.layout) result (IsNew geometry.now.layout) }
 
-        // Two requests are for maps, nine for lists of inodes and four for buffers.
-        ensures requests { M.requests memory.new ≤ M.requests memory.old + 15 }
+        // It asks for each map, list and buffer once.
+        ensures requests { M.requests memory.new ≤ M.requests memory.old
+            + workspace_requests }
     {
         let inodes = geometry.inodes() as usize;
         let used = FragmentMap::in_memory(memory, geometry.layout.size)?;

@@ -5,7 +5,7 @@ import random
 from .. import sources
 from ..case import NotHere, Wrong, entries_of, fragments_of, number_of, owners_of
 from .all import damage
-from .inodes import first_lost, free_block, mend, mend_free, mend_shared
+from .inodes import first_lost, free_block, mend, mend_free, mend_shared, words_of
 from .names import entries_of_inode, place_of
 
 # How many of the inodes that are left are copied, of those that have no name.
@@ -221,6 +221,8 @@ def root_empty(case):
     volume.zero(volume.layout.inode_place(2), 128)
     case.at_stake(*case.tree)
     case.report("ROOT INODE UNALLOCATED")
+    if "ends with 8" not in case.complaints("unnamed"):
+        raise Wrong("nothing says that the report doesn't tell what no entry names")
     names = {entry.name: entry.number for entry in entries_of(case.run("lost-names"))}
     case.run("below", i=names["docs"])
     found = case.run("further directories check")
@@ -299,14 +301,137 @@ def last_part_after_other(case):
     case.run("all")
 
 
-@damage("files lie 140 levels deep")
+def all_listed(case, tree):
+    """The recipes `names` and `attributes` must list all of a tree."""
+    names = {line.partition("\t")[2] for line in case.run("names").splitlines()}
+    case.run("attributes")
+    attributes = {line.split("|")[1] for line in case.bytes_of("saved.list").decode().splitlines()}
+    missing = set(tree) - names or {path for path in tree if f"/{path}" not in attributes}
+    if missing:
+        raise Wrong(f"{min(missing, key=len)} isn't listed")
+
+
+@damage("files lie 260 levels deep")
 def deep(case):
     if "d/file_0" not in case.tree:
         raise NotHere
     case.at_stake(*case.tree)
     case.report()
-    last = max((line for line in case.run("names all").splitlines() if line.startswith("d/d ")), key=lambda line: line.count("/"))
-    case.run("below all-below", i=last.split()[1].rstrip(":"))
+    all_listed(case, case.tree)
+    case.run("all")
+    i = case.volume.find("/".join(["d"] * 200) + "/file_199")
+    if case.run("names-of", i=i).count("/") != 201:
+        raise Wrong("the name of a deep file isn't found")
+
+
+@damage("a directory many levels deep became one that it lies in")
+def deep_ring(case):
+    if "d/file_0" not in case.tree:
+        raise NotHere
+    case.at_stake(*case.tree)
+    paths = ["/".join(["d"] * depth) for depth in (120, 5)]
+    case.volume.put(case.volume.entry(paths[0]), 4, case.volume.find(paths[1]))
+    i = case.report("IS AN EXTRANEOUS HARD LINK TO DIRECTORY", "UNREF").first("UNREF")["inode"]
+    case.run("names all")
+    case.run("below all-below", i=i)
+
+
+@damage("paths are longer than 4,096 bytes")
+def long_paths(case):
+    """What makefs makes is put together: each piece becomes the last directory of the one before it."""
+    if "piece_0" not in case.tree:
+        raise NotHere
+    volume = case.volume
+    for piece in range(2):
+        last = max((path for path in volume.tree() if f"/{piece}_13_" in path and path.endswith("/last")), key=len)
+        exchange_directories(volume, last, f"piece_{piece + 1}")
+    case.tree = volume.tree()
+    case.at_stake(*case.tree)
+    if case.report():
+        raise Wrong("the pieces don't fit")
+    all_listed(case, case.tree)
+    case.run("all")
+
+
+def exchange_directories(volume, *paths):
+    """Gives two directories each other's name and place."""
+    entries = [volume.entry(path) for path in paths]
+    numbers = [volume.number(place, 4) for place in entries]
+    above = [list(volume.entries(i))[1][0] for i in numbers]
+    parents = [volume.number(place, 4) for place in above]
+    for places, values in ((entries, reversed(numbers)), (above, reversed(parents))):
+        for place, value in zip(places, values):
+            volume.put(place, 4, value)
+
+
+@damage("the type in the entry of a directory became that of a file")
+def type_of_file(case):
+    case.in_one_order()
+    case.volume.put(case.volume.entry("mail") + 6, 1, 8)
+    case.at_stake(*[path for path in case.tree if path.startswith("mail/") and path not in sources.SHORT_LINKS])
+    case.report("BAD TYPE VALUE")
+    all_listed(case, [path for path in case.tree if path not in sources.SHORT_LINKS and path != "mail/longer"])
+    case.run("all")
+
+
+@damage("the size of a directory became endless")
+def size_endless(case):
+    case.volume.put_inode(case.volume.find("mail/in"), size=1 << 50)
+    case.at_stake(*[path for path in case.tree if path not in sources.SHORT_LINKS])
+    case.report("UNKNOWN FILE TYPE")
+    all_listed(case, [path for path in case.tree if path not in sources.SHORT_LINKS and path != "mail/longer"])
+    if "its size" not in case.complaints("all"):
+        raise Wrong("nothing says that a directory isn't read to its end")
+    case.run("all")
+    case.run("every")
+
+
+@damage("an address of a directory became one outside of the volume, and its block isn't put back")
+def address_bad(case):
+    volume = case.volume
+    i = volume.find("docs/names")
+    gone, fsize = volume.blocks(i)[1] * volume.layout.fsize, volume.layout.fsize
+    lost = {f"docs/names/{name}" for place, _, _, _, name in volume.entries(i) if gone <= place < gone + volume.layout.bsize}
+    volume.put_inode(i, direct1=volume.layout.size + fsize)
+    case.at_stake(*[path for path in case.tree if path not in sources.SHORT_LINKS and path not in lost])
+    case.report("BAD", "UNREF")
+    if "outside of the volume" not in case.complaints("all"):
+        raise Wrong("nothing says that a directory isn't whole")
+    case.run("names all")
+
+
+@damage("a word of the indirect block of a directory of more than twelve blocks became one outside of the volume")
+def word_bad(case):
+    volume, layout = case.volume, case.volume.layout
+    case.in_one_order()
+    if "long" not in case.tree:
+        raise NotHere
+    i = volume.find("long")
+    gone = [f * layout.fsize for f in volume.blocks(i)[14:]]
+    files = [path for path, it in case.tree.items() if isinstance(it, bytes)]
+    after = {f"long/{name}" for place, _, _, _, name in volume.entries(i) if any(first <= place < first + layout.bsize for first in gone)}
+    volume.put(volume.inode(i)["single"] * layout.fsize + 8, 4, 0x7FFFFFF0)
+    case.at_stake(*set(files) - after)
+    bad = case.report("BAD", "UNREF").first("BAD")
+    i = bad["inode"]
+    if "is read up to byte" not in case.complaints("all"):
+        raise Wrong("nothing says that a directory isn't read to its end")
+    b = fragments_of(case.run("inode", i=i))[12]
+    case.run("further word keep", b=b, k=words_of(case, i, 12).index(bad["fragment"]), f=0)
+    case.run("names all")
+
+
+@damage("the size of a directory became endless, and its entry another one")
+def size_endless_unnamed(case):
+    case.in_one_order()
+    volume = case.volume
+    volume.put(volume.entry("mail"), 4, volume.find("docs"))
+    volume.put_inode(volume.find("docs/pages"), size=1 << 50)
+    case.at_stake(*[path for path in case.tree if path not in sources.SHORT_LINKS and path != "mail/longer"], name=False)
+    case.report("IS AN EXTRANEOUS HARD LINK TO DIRECTORY", "UNREF")
+    case.run("names")
+    case.run("all")
+    case.run("unnamed")
 
 
 @damage("the inode of a directory of more than twelve blocks became zeros")

@@ -1,6 +1,8 @@
 """Damaged inodes: modes, sizes, addresses, indirect blocks."""
 import os
 import re
+import subprocess
+from collections import Counter
 
 from ..case import NotHere, Wrong, fragments_of, number_of, owners_of, places_of
 from ..sources import SHORT_LINKS
@@ -188,6 +190,55 @@ def size_endless(case):
     mend(case, i, "size", size=size - (1 << size.bit_length() - 1))
     case.trees = []
     case.run("keep all")
+
+
+@damage("the sizes of a file and of a link became endless, among others")
+def sizes_endless(case):
+    case.volume.put_inode(case.volume.find("docs/letter"), size=1 << 50)
+    case.volume.put_inode(case.volume.find("mail/short"), size=1 << 50)
+    case.volume.put_inode(case.volume.find("big/photo"), size=1 << 50)
+    case.at_stake(*[path for path in case.tree if path not in SHORT_LINKS])
+    case.report("UNKNOWN FILE TYPE")
+    if "disk full" not in case.on_full_disk("all") or os.path.exists(f"{case.place}/bounded.img"):
+        raise Wrong("on a full disk nothing says so, or a copy is left")
+    case.run("names all")
+    if case.complaints("all").count("is read up to byte") != 3:
+        raise Wrong("the inodes that aren't read to their end aren't named")
+
+
+@damage("addresses of files became ones outside of the volume, and their blocks aren't put back")
+def addresses_bad(case):
+    volume, bsize = case.volume, case.volume.layout.bsize
+    volume.put_inode(volume.find("big/film"), direct3=WILD)
+    volume.put_inode(volume.find("big/photo"), single=WILD)
+    film, photo = case.tree["big/film"], case.tree["big/photo"]
+    case.tree["big/film"] = film[:3 * bsize] + bytes(bsize) + film[4 * bsize:]
+    case.tree["big/photo"] = photo[:12 * bsize] + bytes(max(0, len(photo) - 12 * bsize))
+    case.at_stake(*[path for path in case.tree if path not in SHORT_LINKS])
+    case.report("BAD")
+    case.run("names all")
+
+
+@damage("the size of a file without a name became endless")
+def size_endless_unnamed(case):
+    case.volume.put(case.volume.entry("docs/letter"), 4, 99999)
+    case.volume.put_inode(case.volume.find("docs/letter"), size=LOW_BIT + ENDLESS_BIT)
+    case.at_stake("docs/letter")
+    case.at_stake("mail/in/one", name=False)
+    case.volume.put(case.volume.entry("mail/in"), 4, 99998)
+    case.report("I OUT OF RANGE", "UNREF")
+    case.run("unnamed")
+
+
+@damage("a file's size became larger than the volume, and its triple indirect block holds anything")
+def size_and_address(case):
+    volume = case.volume
+    volume.put_inode(volume.find("docs/report"), size=1 << 40, triple=volume.blocks(volume.find("big/film"))[0])
+    case.at_stake(*[path for path in case.tree if path not in {*SHORT_LINKS, "docs/report", "mail/report_too"}])
+    case.report("EXCESSIVE BAD BLKS")
+    if "is passed over" not in case.complaints("all"):
+        raise Wrong("what is passed over isn't named")
+    case.run("names all")
 
 
 def right_most(case, i):
@@ -841,7 +892,8 @@ def bytes_bad_of_disk(case):
 
 
 def find_bad(case, start):
-    """Two bad areas, the second one of several blocks: ddrescue's map of them leads to all files that have a fragment there."""
+    """Bad areas, one of several blocks, and the first fragments, which could be read at last: ddrescue's map of them leads to all files that
+    have a fragment there."""
     volume = case.volume
     fsize = volume.layout.fsize
     film = volume.blocks(volume.find("big/film"))
@@ -849,12 +901,20 @@ def find_bad(case, start):
     case.at_stake("docs/letter", "big/film", "big/photo", data=False)
     for place, length in areas:
         volume.zero(place, length)
+    areas.append((0, 8 * volume.layout.iblkno * fsize // 6))
     with open(f"{case.place}/copy.map", "w", encoding="ascii") as it:
         it.write("# Mapfile. Created by GNU ddrescue version 1.27\n# current_pos  current_status  current_pass\n0x00000200     +               1\n")
         it.write("#      pos        size  status\n0x00000000  0x00000200  +\n")
-        it.writelines(f"0x{512 * start + place:08X}  0x{length:08X}  {status}\n" for (place, length), status in zip(areas, "-*"))
+        it.writelines(f"0x{512 * start + place:08X}  0x{length:08X}  {status}\n" for (place, length), status in zip(areas, "-*/"))
     case.report()
     found = case.run("bad-areas", start=start)
+    counts = Counter()
+    for place, length in areas if not start else []:
+        for f in range(place // fsize, (place + length - 1) // fsize + 1):
+            run = subprocess.run(["ffs_find", "owner", str(f), "copy.img"], cwd=case.place, capture_output=True, text=True, check=True)
+            counts.update(run.stdout.splitlines())
+    if counts and {tuple(line.split(None, 1)) for line in found.splitlines()} != {(str(count), line) for line, count in counts.items()}:
+        raise Wrong("the recipe bad-areas has other owners than ffs_find owner")
     for i in sorted({int(number) for number in re.findall(r"\binode (\d+) ", found)}):
         case.run("names-of", i=i)
 

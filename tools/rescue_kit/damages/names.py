@@ -1,4 +1,6 @@
 """Damaged entries: numbers, types, lengths, and entries that are gone."""
+import os
+
 from ..case import Wrong, entries_of, fragments_of, number_of
 from ..sources import SHORT_LINKS
 from .all import damage
@@ -172,6 +174,53 @@ def names_control(case):
         raise Wrong(f"page_1^ is in the list of names as {numbers}")
     for i in numbers:
         case.run("bytes", i=i)
+
+
+@damage("a file has the name of another one")
+def names_same(case):
+    case.in_one_order()
+    case.volume.image[case.volume.entry("docs/pages/page_10") + 8 + len("page_1")] = ord("1")
+    case.at_stake("docs/pages/page_10", name=False)
+    case.at_stake("docs/pages/page_11")
+    if case.report():
+        raise Wrong("the report names it")
+    case.run("all")
+
+
+@damage("a file has the name of a directory")
+def name_of_directory(case):
+    case.in_one_order()
+    place = case.volume.entry("docs/letter")
+    case.volume.image[place + 7:place + 8 + 6] = b"\5pages\0"
+    case.at_stake("docs/letter", name=False)
+    case.at_stake(*[path for path in case.tree if path.startswith("docs/pages/")])
+    if case.report():
+        raise Wrong("the report names it")
+    case.run("names all")
+
+
+@damage("an entry's number became that of the root")
+def number_of_root(case):
+    case.in_one_order()
+    set_number(case, "docs/letter", 2)
+    case.at_stake(*[path for path in case.tree if path not in SHORT_LINKS and path != "docs/letter"])
+    case.report("BAD TYPE VALUE", "UNREF")
+    if case.run("names").count("\tbig/film") != 1:
+        raise Wrong("a file is listed twice")
+    case.run("all")
+    if os.path.exists(f"{case.place}/saved.d.2") or len(case.trees) > 1:
+        raise Wrong("the root is copied twice")
+
+
+@damage("the types in the entries of files became those of directories")
+def type_of_directory(case):
+    case.in_one_order()
+    paths = ["docs/letter", "mail/in/one"]
+    for path in paths:
+        case.volume.put(case.volume.entry(path) + 6, 1, 4)
+    case.at_stake(*paths)
+    case.report("BAD TYPE VALUE")
+    case.run("names all")
 
 
 @damage("a deleted entry has the name of a file")

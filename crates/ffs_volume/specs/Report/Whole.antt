@@ -69,8 +69,8 @@ abbrev pub summary_messages : (image : List ℕ) → Superblock → List Message
 summary_messages image s = summary_of s (file_count s.layout image) (claimed_count s.layout image) ∷ []
 
 -- phase 1b, where it runs
-abbrev pub rescan_lines : Layout → List ℕ → List Message
-rescan_lines v image = if has_rescan v (owners_of v image) then phase1b_messages v image else []
+abbrev pub phase1b_messages_if_dups : Layout → List ℕ → List Message
+phase1b_messages_if_dups v image = if has_rescan v (owners_of v image) then phase1b_messages v image else []
 
 -- phases 3 to 5 and the summary
 unfoldable pub later_phase_lines : List ℕ → Superblock → List Message
@@ -81,7 +81,7 @@ later_phase_lines image s =
 -- the phases and the summary; where inode 2 isn't a directory, the check stops after the root's line
 unfoldable pub phase_lines : List ℕ → Superblock → List Message
 phase_lines image s =
-    phase1_messages s.layout image ++ (rescan_lines s.layout image ++ (phase2_messages s.layout image
+    phase1_messages s.layout image ++ (phase1b_messages_if_dups s.layout image ++ (phase2_messages s.layout image
     ++ (if continues_after_root (volume_of s.layout image) then later_phase_lines image s else [])))
 
 -- the report of an image with this accepted superblock, after `head_lines`

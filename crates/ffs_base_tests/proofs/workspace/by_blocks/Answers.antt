@@ -10,7 +10,7 @@ inode-requires-2 g c =
       number = omega (arith, c.requires.inodes);
       ready = record {
         volume = subst (λ (d : Device). v.size * v.fsize ≤ d.size) read c.requires.ready.volume;
-        made = c.inode.ensures.reads.kept.made;
-        holds = c.inode.ensures.reads.kept.holds;
+        made = c.inode.ensures.inode.reads.kept.made;
+        holds = c.inode.ensures.inode.reads.kept.holds;
       };
     }

@@ -10,8 +10,8 @@ inode_by_part-requires-2 g c =
       number = omega (arith, c.requires.inodes);
       ready = record {
         volume = subst (λ (d : Device). v.size * v.fsize ≤ d.size) read c.requires.ready.volume;
-        made = c.inode_by_part.ensures.reads.kept.made;
-        holds = c.inode_by_part.ensures.reads.kept.holds;
+        made = c.inode_by_part.ensures.inode.reads.kept.made;
+        holds = c.inode_by_part.ensures.inode.reads.kept.holds;
       };
     }
 
@@ -23,7 +23,7 @@ inode_by_part-requires-3 g c =
       number = omega (arith, c.requires.inodes);
       ready = record {
         volume = subst (λ (d : Device). v.size * v.fsize ≤ d.size) read c.requires.ready.volume;
-        made = c.inode_by_part-2.ensures.reads.kept.made;
-        holds = c.inode_by_part-2.ensures.reads.kept.holds;
+        made = c.inode_by_part-2.ensures.inode.reads.kept.made;
+        holds = c.inode_by_part-2.ensures.inode.reads.kept.holds;
       };
     }

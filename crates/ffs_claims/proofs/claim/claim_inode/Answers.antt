@@ -27,20 +27,20 @@ unfolding TakesPiece owner_of
 returns-clause-by_block g c =
     let v = c.args.geometry.now.layout in
     let s = claims_of c.args.workspace.now in
-    let gives = ap (λ d. d.contents) c.in_ok-inode.ensures.reads.read in
+    let gives = ap (λ d. d.contents) c.in_ok-inode.ensures.inode.reads.read in
     let did = c.claim_read_inode.ensures in
     let counted = did.claims.left.counted in
     record {
       again = λ held.
-          (did.table ∙ c.in_ok-inode.ensures.piece.0 held, omega (arith, c.in_ok-inode.ensures.again held, counted));
+          (did.table ∙ c.in_ok-inode.ensures.inode.piece.0 held, omega (arith, c.in_ok-inode.ensures.inode.again held, counted));
       known = λ held bytes t. omega (
         arith,
-        c.in_ok-inode.ensures.again held,
+        c.in_ok-inode.ensures.inode.again held,
         did.claims.known bytes (gives ∙ t),
         ap (λ i. indirect_in_steps v (at_next_inode s) (steps_of v i bytes))
-            (c.in_ok-inode.ensures.reads.inode bytes t),
+            (c.in_ok-inode.ensures.inode.reads.inode bytes t),
       );
-      block = λ unheld. on_any c.claim_read_inode.result (rw did.table (c.in_ok-inode.ensures.piece.1 unheld));
+      block = λ unheld. on_any c.claim_read_inode.result (rw did.table (c.in_ok-inode.ensures.inode.piece.1 unheld));
     }
 
 pub returns-clause-stored : goal.returns-clause-stored

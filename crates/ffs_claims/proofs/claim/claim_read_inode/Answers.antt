@@ -12,17 +12,17 @@ use Rattle.ffs_claims.proofs.claim.claim_read_inode.Goals as goal
 pub say_count-requires : goal.say_count-requires
 say_count-requires g c =
     let b = begun c.args.workspace.now c.clear_counts.ensures c.requires.can.runs in
-    let made = c.claim.ensures.left.claim.ready.ready.made in
+    let made = c.claim_steps.ensures.left.claim.ready.ready.made in
     omega (
       arith,
       c.args.geometry.now.sound.numbers.size_below,
-      kept_bound (claims_of c.clear_counts.new.workspace) (claims_of c.claim.new.workspace) c.args.geometry.now.layout.size
-          (bits_long c.claim.new.workspace.used ∙ made.used) (omega arith) (omega arith) b.kept
-          c.in_ok-claim.ensures.left.claim_bound,
+      kept_bound (claims_of c.clear_counts.new.workspace) (claims_of c.claim_steps.new.workspace) c.args.geometry.now.layout.size
+          (bits_long c.claim_steps.new.workspace.used ∙ made.used) (omega arith) (omega arith) b.kept
+          c.in_ok-claim_steps.ensures.left.claim_bound,
     )
 
-pub claim-requires : goal.claim-requires
-claim-requires g c = grind arith
+pub claim_steps-requires : goal.claim_steps-requires
+claim_steps-requires g c = grind arith
 
 pub returns-in_err-say_class-clause-claims : goal.returns-in_err-say_class-clause-claims
 returns-in_err-say_class-clause-claims g c =
@@ -43,27 +43,27 @@ returns-in_err-say_class-clause-claims g c =
       );
     })
 
-pub returns-in_err-claim-clause-claims : goal.returns-in_err-claim-clause-claims
-returns-in_err-claim-clause-claims g c =
-    let p = err_from_is_err_and c.from_residual-in_err-claim.result c.from_residual-in_err-claim.ensures.1 in
+pub returns-in_err-claim_steps-clause-claims : goal.returns-in_err-claim_steps-clause-claims
+returns-in_err-claim_steps-clause-claims g c =
+    let p = err_from_is_err_and c.from_residual-in_err-claim_steps.result c.from_residual-in_err-claim_steps.ensures.1 in
     let v = c.args.geometry.now.layout in
     let s1 = claims_of c.clear_counts.new.workspace in
     let b = begun_runs c.args.workspace.now c.clear_counts.ensures in
-    let left = c.claim.ensures.left in
+    let left = c.claim_steps.ensures.left in
     rw (p.1, p.2) (record {
       text = of_fault (Unit {0}) (Unit {0}) _ _ _ _ _ _ _ _ _
           (class_said v _ _ (claims_of c.args.workspace.now) (ap claims_of c.clear_counts.ensures) c.requires.class_is
-          c.in_ok-say_class.ensures) (λ bytes t. refl) c.in_err-claim.ensures.text;
+          c.in_ok-say_class.ensures) (λ bytes t. refl) c.in_err-claim_steps.ensures.text;
       claims = tt;
       left = grind (arith, stay);
       known = λ bytes t. omega (
         arith,
-        c.claim.ensures.known bytes t,
+        c.claim_steps.ensures.known bytes t,
         ap (λ s. indirect_in_steps v s (steps_of v c.args.claimant.now.inode.now bytes)) (ap claims_of c.clear_counts.ensures),
       );
       most = λ bytes t. omega (
         arith,
-        c.claim.ensures.most bytes t,
+        c.claim_steps.ensures.most bytes t,
         ap (λ s. (after_steps v s (steps_of v c.args.claimant.now.inode.now bytes)).runs) (ap claims_of c.clear_counts.ensures),
       );
     })
@@ -73,22 +73,22 @@ returns-in_err-say_count-clause-claims g c =
     let p = err_from_is_err_and c.from_residual-in_err-say_count.result c.from_residual-in_err-say_count.ensures.1 in
     let v = c.args.geometry.now.layout in
     let b = begun_runs c.args.workspace.now c.clear_counts.ensures in
-    let left = c.claim.ensures.left in
+    let left = c.claim_steps.ensures.left in
     rw (p.1, p.2) (record {
       text = of_stops _ _ (λ bytes. []) _ _ _ _ _ (steps_reported v _ _ (claims_of c.args.workspace.now)
           (ap claims_of c.clear_counts.ensures) c.requires.class_is c.in_ok-say_class.ensures
-          c.in_ok-claim.ensures.text c.in_ok-claim.ensures.claims) (λ bytes t. refl)
+          c.in_ok-claim_steps.ensures.text c.in_ok-claim_steps.ensures.claims) (λ bytes t. refl)
           c.in_err-say_count.ensures;
       claims = tt;
       left = grind (arith, stay);
       known = λ bytes t. omega (
         arith,
-        c.claim.ensures.known bytes t,
+        c.claim_steps.ensures.known bytes t,
         ap (λ s. indirect_in_steps v s (steps_of v c.args.claimant.now.inode.now bytes)) (ap claims_of c.clear_counts.ensures),
       );
       most = λ bytes t. omega (
         arith,
-        c.claim.ensures.most bytes t,
+        c.claim_steps.ensures.most bytes t,
         ap (λ s. (after_steps v s (steps_of v c.args.claimant.now.inode.now bytes)).runs) (ap claims_of c.clear_counts.ensures),
       );
     })
@@ -97,28 +97,28 @@ pub returns-clause-claims : goal.returns-clause-claims
 returns-clause-claims g c =
     let v = c.args.geometry.now.layout in
     let b = begun_runs c.args.workspace.now c.clear_counts.ensures in
-    let s = stored_runs c.claim.new.workspace c.store-2.ensures.same in
+    let s = stored_runs c.claim_steps.new.workspace c.store-2.ensures.same in
     let zero = begun c.args.workspace.now c.clear_counts.ensures c.requires.can.runs in
-    let left = c.claim.ensures.left in
+    let left = c.claim_steps.ensures.left in
     let ready = ready_stored c.store-2.ensures.stored c.store-2.ensures.same left.claim.ready in
-    let m = c.in_ok-claim.ensures.left.claim_bound in
+    let m = c.in_ok-claim_steps.ensures.left.claim_bound in
     record {
       text = of_says _ _ (λ bytes. []) _ _ _ _ _ (steps_reported v _ _ (claims_of c.args.workspace.now)
           (ap claims_of c.clear_counts.ensures) c.requires.class_is c.in_ok-say_class.ensures
-          c.in_ok-claim.ensures.text c.in_ok-claim.ensures.claims) (λ bytes t. refl)
+          c.in_ok-claim_steps.ensures.text c.in_ok-claim_steps.ensures.claims) (λ bytes t. refl)
           c.in_ok-say_count.ensures;
-      claims = λ bytes t. ap claims_of c.store-2.ensures.same ∙ c.in_ok-claim.ensures.claims bytes t
+      claims = λ bytes t. ap claims_of c.store-2.ensures.same ∙ c.in_ok-claim_steps.ensures.claims bytes t
           ∙ ap (λ s. after_steps v s (steps_of v c.args.claimant.now.inode.now bytes)) (ap claims_of c.clear_counts.ensures);
       left = grind (arith, stay);
       known = λ bytes t. omega (
         arith,
-        c.claim.ensures.known bytes t,
+        c.claim_steps.ensures.known bytes t,
         ap (λ s. indirect_in_steps v s (steps_of v c.args.claimant.now.inode.now bytes)) (ap claims_of c.clear_counts.ensures),
       );
       most = λ bytes t. omega (
         arith,
         s.seen,
-        c.claim.ensures.most bytes t,
+        c.claim_steps.ensures.most bytes t,
         ap (λ s. (after_steps v s (steps_of v c.args.claimant.now.inode.now bytes)).runs) (ap claims_of c.clear_counts.ensures),
       );
     }

@@ -33,15 +33,15 @@ returns-in_err-say_bad-clause-claims g c =
       runs = omega (arith, more block);
     })
 
-pub offers_of_bad_run-requires : goal.offers_of_bad_run-requires
-offers_of_bad_run-requires g c = grind (arith, nat_tests)
+pub take_bad_run-requires : goal.take_bad_run-requires
+take_bad_run-requires g c = grind (arith, nat_tests)
 
-pub returns-in_err-offers_of_bad_run-clause-claims : goal.returns-in_err-offers_of_bad_run-clause-claims
-returns-in_err-offers_of_bad_run-clause-claims g c =
+pub returns-in_err-take_bad_run-clause-claims : goal.returns-in_err-take_bad_run-clause-claims
+returns-in_err-take_bad_run-clause-claims g c =
     let more = λ (block : Option ℕ). run_more c.args.geometry.now.layout (claims_of c.args.workspace.now) c.args.run.start
     c.args.run.len block c.requires.uncut in
-    let from = c.from_residual-in_err-offers_of_bad_run in
-    let did = c.in_err-offers_of_bad_run.ensures in
+    let from = c.from_residual-in_err-take_bad_run in
+    let did = c.in_err-take_bad_run.ensures in
     rw ((err_from_is_err_and from.result from.ensures.1).1) (λ block. record {
       said = rw c.requires.uncut (run_stops_later _ _ (claims_of c.args.workspace.now) c.args.run.start c.args.run.len
           (sym c.move_to.ensures.value ∙ c.if-move_to.false) (grind (arith, nat_tests)) c.in_ok-say_bad.ensures
@@ -56,7 +56,7 @@ pub returns-clause-claims : goal.returns-clause-claims
 returns-clause-claims g c =
     let more = λ (block : Option ℕ). run_more c.args.geometry.now.layout (claims_of c.args.workspace.now) c.args.run.start
     c.args.run.len block c.requires.uncut in
-    let did = c.in_ok-offers_of_bad_run.ensures in
+    let did = c.in_ok-take_bad_run.ensures in
     λ block. record {
       said = rw c.requires.uncut (run_said _ _ (claims_of c.args.workspace.now) c.args.run.start c.args.run.len
           (sym c.move_to.ensures.value ∙ c.if-move_to.false) (grind (arith, nat_tests)) c.in_ok-say_bad.ensures

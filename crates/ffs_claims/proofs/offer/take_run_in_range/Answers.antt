@@ -24,8 +24,8 @@ returns-then-claim g c =
     }
 
 -- one that isn't claimed at once: the map is as it was
-pub returns-in_err-offers-clause-taken : goal.returns-in_err-offers-clause-taken
-returns-in_err-offers-clause-taken g c = grind arith
+pub returns-in_err-take_offers-clause-taken : goal.returns-in_err-take_offers-clause-taken
+returns-in_err-take_offers-clause-taken g c = grind arith
 
 pub returns-clause-taken : goal.returns-clause-taken
 returns-clause-taken g c = grind arith

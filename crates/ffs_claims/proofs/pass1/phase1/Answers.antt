@@ -5,7 +5,8 @@ use Rattle.ffs_volume.specs.{Blocks.{KeptSteps.claims_before, Owners.{owner_of, 
 use Rattle.ffs_volume.specs.Blocks.Claims.{all_claims}
 use Rattle.ffs_volume.{specs.{Blocks.Inodes.inodes_of, Laws.ClaimBounds.used_bits}, proofs.Sizes.some_inodes}
 use Rattle.ffs_report.proofs.Reporting.{of_part, of_fault, of_same, reports_knowing, says_heading, stops_heading}
-use Rattle.ffs_report.{proofs.Reporting.{heading_alone, heading_part, said_knows}, specs.Known.ForBytes}
+use Rattle.ffs_report.proofs.Reporting.{heading_alone, heading_part, said_knows}
+use Rattle.ffs_image.specs.Known.{ForBytes}
 use Rattle.ffs_workspace.{proofs.Leaving.fresh_held, specs.{Found.WithFresh, Holds.claims_of}}
 use Rattle.ffs_workspace.specs.declared.workspace.Workspace.{Workspace}
 use Rattle.ffs_maps.specs.Bits.{bits_of}
@@ -109,9 +110,9 @@ loop-number-preserved g c =
     (λ bytes. s' ≡ after_owner v (claims_before v bytes n) (owner_of v bytes n)) = λ bytes k. now bytes (contents ∙ k.0)
     ∙ ap (λ t. after_owner v t (owner_of v bytes n)) (inv.claims bytes k) in
     let w = c.claim_inode.new.workspace in
-    let next = c.pass_free_inodes-number.result in
+    let next = c.skip_free_inodes-number.result in
     let ready = c.claim_inode.ensures.claims.left.claim.ready in
-    let passes = c.pass_free_inodes-number.ensures in
+    let passes = c.skip_free_inodes-number.ensures in
     let high : next ≤ inodes_of v = omega (arith, passes.ends.high) in
     let gives = ap (λ d. d.contents) (c.in_ok-claim_inode.ensures.claims.left.image ∙ inv.device) in
     let stands : ForBytes (WithFresh v (g.I.Image.device c.args.image.now) c.args.workspace.now)
@@ -175,8 +176,8 @@ loop-number-preserved g c =
           })
     ]
 
-pub pass_free_inodes-number-requires : goal.pass_free_inodes-number-requires
-pass_free_inodes-number-requires g c =
+pub skip_free_inodes-number-requires : goal.skip_free_inodes-number-requires
+skip_free_inodes-number-requires g c =
     let ready = c.claim_inode.ensures.claims.left.claim.ready in
     record {
       inodes = has_inodes ready.windows.table.made ready.windows.table.holds;

@@ -1,7 +1,8 @@
 use Rattle.std.proofs.{Common.{◌≡◌, ◌≤◌, ◌∙◌, ℕ, false, List, [], ap, arith, Result, Ok, Err}}
 use Rattle.ffs_image.specs.Device.{Device}
 use Rattle.ffs_volume.{proofs.RunBounds.runs_bounded, specs.Report.Whole.run_count}
-use Rattle.ffs_report.specs.{Known.ForBytes, PhaseOutcome.{ImageAfter, PhaseReports, SaidOf}, Progress.Progress}
+use Rattle.ffs_report.specs.{PhaseOutcome.{ImageAfter, PhaseReports, SaidOf}, Progress.Progress}
+use Rattle.ffs_image.specs.Known.{ForBytes}
 use Rattle.ffs_report.{proofs.Reporting.reports_knowing, specs.declared.fault.RunFault.{RunFault, TheVariants.{Out, Read}}}
 use Rattle.ffs_volume.specs.Messages.Kinds.{Message}
 use Rattle.ffs_claims.specs.Phases.{WithNotes}

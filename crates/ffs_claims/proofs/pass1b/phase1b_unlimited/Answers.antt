@@ -4,7 +4,8 @@ use Rattle.ffs_volume.{proofs.RunBounds.runs_bounded, specs.Blocks.BlockCheck.fi
 use Rattle.ffs_volume.specs.{Blocks.{KeptSteps.claims_before, Owners.owners_of}, Messages.Kinds.phase1b}
 use Rattle.ffs_report.proofs.Reporting.{of_begins, of_says, of_part, of_fault, of_stops, of_same, reports_knowing}
 use Rattle.ffs_report.proofs.Reporting.{heading_alone, heading_part, said_knows}
-use Rattle.ffs_report.specs.{Known.ForBytes, declared.fault.RunFault.RunFault}
+use Rattle.ffs_report.specs.declared.fault.RunFault.{RunFault}
+use Rattle.ffs_image.specs.Known.{ForBytes}
 use Rattle.ffs_maps.specs.Bits.{bits_of}
 use Rattle.ffs_workspace.specs.{Found.WithPhase1, declared.workspace.Workspace.Workspace}
 use Rattle.ffs_volume.specs.Blocks.{Inodes.inodes_of, Claims.all_claims, BlockCheck.{set_count, after_first}}
@@ -22,13 +23,13 @@ use Rattle.ffs_claims.proofs.IndirectReads.{read_all, read_begins, read_failed}
 use Rattle.ffs_claims.proofs.IndirectReads.{read_failed_until, read_next, read_until}
 use Rattle.ffs_claims.proofs.{Rescanned.indirect_noted}
 use Rattle.ffs_volume.proofs.{OwnerLaws.before_next, Sizes.some_inodes}
-use Rattle.ffs_claims.specs.{Lines.of_lines, Phases.{WithNotes, rescan_messages}, RescanRuns.rescan_end}
+use Rattle.ffs_claims.specs.{Lines.of_lines, Phases.{WithNotes, phase1b_messages_for}, RescanRuns.rescan_end}
 use Rattle.ffs_claims.proofs.pass1b.phase1b_unlimited.Goals as goal
 
 pub returns-in_err-say-clause-again : goal.returns-in_err-say-clause-again
 returns-in_err-say-clause-again g c =
     let p = err_from_is_err_and c.from_residual.result c.from_residual.ensures.1 in
-    let all = rescan_messages (bits_of c.args.workspace.now.duplicates) c.args.geometry.now.layout in
+    let all = phase1b_messages_for (bits_of c.args.workspace.now.duplicates) c.args.geometry.now.layout in
     rw (p.1, p.2) (of_stops _ all _ _ (phase1b ∷ []) _ _ _ (of_begins _ all _) (λ bytes t. refl)
     c.in_err-say.ensures.said)
 
@@ -67,9 +68,9 @@ loop-number-init g c =
       inodes = λ bytes k. rw (before_first v bytes, same, k.1.duplicates) refl;
       reported = λ bytes k. reporting_begins old _ (rw (before_first v bytes) refl)
           (ap (λ (w : Workspace). w.duplicates) forgot) (ap (λ (w : Workspace). w.marked) forgot);
-      said = of_says _ (rescan_messages (bits_of old.duplicates) v)
+      said = of_says _ (phase1b_messages_for (bits_of old.duplicates) v)
           (λ bytes. of_lines (first_offer_lines d (kept_from v bytes 2))) _ (phase1b ∷ []) _ _ _
-          (of_begins _ (rescan_messages (bits_of old.duplicates) v) _)
+          (of_begins _ (phase1b_messages_for (bits_of old.duplicates) v) _)
           (λ bytes k. rw (before_first v bytes, same) refl) c.in_ok-say.ensures.said;
       heading = heading_alone c.in_ok-say.ensures.said;
     }

@@ -1,13 +1,14 @@
 use Rattle.std.proofs.Common.{◌≡◌, ◌+◌, ◌-◌, ◌<◌, ◌≤◌, Ok}
 use Rattle.ffs_volume.specs.Blocks.{BlockCheck.{first_offer_lines, rescan_runs, runs_until_reported}, Inodes.inodes_of}
 use Rattle.ffs_volume.specs.Blocks.KeptSteps.{claims_before}
-use Rattle.ffs_report.specs.{Known.ForBytes, PhaseOutcome.{HeadingFirst, SaidOf}, Progress.progress}
+use Rattle.ffs_report.specs.{PhaseOutcome.{HeadingFirst, SaidOf}, Progress.progress}
+use Rattle.ffs_image.specs.Known.{ForBytes}
 use Rattle.ffs_volume.specs.Messages.Kinds.{phase1b}
 use Rattle.ffs_maps.specs.Bits.{bits_of}
 use Rattle.ffs_workspace.specs.{Found.WithPhase1, Ready.CanRead}
 use Rattle.ffs_claims.{proofs.{IndirectReads.VolumeRead, Reportings.Reporting, Rescanned.{each_from, kept_from, runs_from}}}
 use Rattle.ffs_claims.specs.Lines.{of_lines}
-use Rattle.ffs_claims.specs.{Phases.{WithNotes, kept_offers, rescan_messages}, Reporting.Phase1bKeeps}
+use Rattle.ffs_claims.specs.{Phases.{WithNotes, kept_offers, phase1b_messages_for}, Reporting.Phase1bKeeps}
 use Rattle.ffs_claims.specs.RescanRuns.{RunsPay, rescan_end}
 use Rattle.ffs_claims.proofs.pass1b.phase1b_unlimited.Given as goal
 
@@ -32,7 +33,7 @@ invariant-loop-number g l = let v = l.geometry.layout in
           Reporting (kept_from v bytes l.number) (kept_offers v bytes) l.fn.workspace l.workspace);
       said : SaidOf noted
           (λ bytes. of_lines (first_offer_lines (bits_of l.workspace.duplicates) (kept_from v bytes l.number)))
-          (rescan_messages (bits_of l.fn.workspace.duplicates) v)
+          (phase1b_messages_for (bits_of l.fn.workspace.duplicates) v)
           (progress g.W.Output.sink l.fn.report) (progress g.W.Output.sink l.report);
       heading : HeadingFirst {T = Unit {0}} phase1b (progress g.W.Output.sink l.fn.report)
           (progress g.W.Output.sink l.report) (Ok tt);

@@ -1,7 +1,8 @@
 use Rattle.std.proofs.Common.{◌≡◌, ◌≢◌, ◌+◌, ◌≤◌, true, slice_index}
 use Rattle.ffs_volume.specs.{Blocks.{BlockCheck.first_offer_lines, Steps.steps_of}, Encodings.Replay.fresh_replay}
 use Rattle.ffs_volume.specs.{Encodings.{Replay.is_replay_open, Notes.cut_in}, Blocks.BlockCheck.set_count}
-use Rattle.ffs_report.specs.{Known.{ForBytes, IsContents}, PhaseOutcome.SaidOf, Progress.progress}
+use Rattle.ffs_report.specs.{PhaseOutcome.SaidOf, Progress.progress}
+use Rattle.ffs_image.specs.Known.{ForBytes, IsContents}
 use Rattle.ffs_maps.specs.Bits.{bits_of}
 use Rattle.ffs_walk.specs.{Counts.{AreHeld, unread}, Keepings.replay_in, Rests.{steps_left, most_steps_left}}
 use Rattle.ffs_claims.{proofs.Rewalks.{Rereads, Rewalking}, specs.{Lines.of_lines, Rescan.offers_again}}

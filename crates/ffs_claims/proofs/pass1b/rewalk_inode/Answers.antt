@@ -24,16 +24,16 @@ pub returns-clause-by_block : goal.returns-clause-by_block
 unfolding TakesPiece
 returns-clause-by_block g c =
     let v = c.args.geometry.now.layout in
-    let gives = ap (λ d. d.contents) c.in_ok-inode.ensures.reads.read in
+    let gives = ap (λ d. d.contents) c.in_ok-inode.ensures.inode.reads.read in
     let did = c.rewalk.ensures in
     let cut = noted_cut c.args.workspace.now c.args.number in
     record {
-      again = λ held. did.table ∙ c.in_ok-inode.ensures.piece.0 held;
+      again = λ held. did.table ∙ c.in_ok-inode.ensures.inode.piece.0 held;
       known = λ held bytes t. omega (
         arith,
-        c.in_ok-inode.ensures.again held,
+        c.in_ok-inode.ensures.inode.again held,
         did.walks.known bytes (gives ∙ t),
-        ap (λ i. indirect_again v cut fresh_replay (steps_of v i bytes)) (c.in_ok-inode.ensures.reads.inode bytes t),
+        ap (λ i. indirect_again v cut fresh_replay (steps_of v i bytes)) (c.in_ok-inode.ensures.inode.reads.inode bytes t),
       );
-      block = λ unheld. on_any c.rewalk.result (rw did.table (c.in_ok-inode.ensures.piece.1 unheld));
+      block = λ unheld. on_any c.rewalk.result (rw did.table (c.in_ok-inode.ensures.inode.piece.1 unheld));
     }

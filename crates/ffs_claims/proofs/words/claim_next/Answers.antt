@@ -1,5 +1,5 @@
 use Rattle.std.proofs.Common.{◌+◌, arith}
-use Rattle.ffs_claims.{specs.SilentWords.with_run_counts, proofs.WordClaims.address_once}
+use Rattle.ffs_claims.{specs.SilentAddresses.with_run_counts, proofs.WordClaims.address_once}
 use Rattle.ffs_claims.proofs.words.claim_next.Goals as goal
 
 pub claim_address-requires-clause-can : goal.claim_address-requires-clause-can

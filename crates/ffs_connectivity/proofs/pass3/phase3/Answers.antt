@@ -1,7 +1,8 @@
 use Rattle.std.proofs.Common.{◌+◌, ap, refl, ◌∙◌, arith, rules, Err, Ok}
 use Rattle.std.proofs.lemmas.Result.{err_from_is_err_and}
 use Rattle.ffs_volume.{specs.Directories.Volumes.volume_of, proofs.Numbered.{as_many, count_next, from_next, from_end}}
-use Rattle.ffs_report.{specs.Known.ForBytes, proofs.Paying.{paid_answer, paid_fault, paid_says, paid_stops, paid_then}}
+use Rattle.ffs_report.proofs.Paying.{paid_answer, paid_fault, paid_says, paid_stops, paid_then}
+use Rattle.ffs_image.specs.Known.{ForBytes}
 use Rattle.ffs_report.proofs.Reporting.{of_fault, of_part, of_same, reports_knowing, said_knows, says_heading}
 use Rattle.ffs_report.proofs.Reporting.{heading_alone, heading_part, stops_heading}
 use Rattle.ffs_workspace.{specs.{Found.WithSurvey, declared.workspace.Workspace.Workspace}, proofs.PlaceLaws.filled_noted}

@@ -1,5 +1,6 @@
 use Rattle.std.proofs.Common.{◌≡◌, ◌+◌, ◌-◌, ◌≤◌, length, Ok}
-use Rattle.ffs_report.specs.{Known.ForBytes, Paid.Paid, PhaseOutcome.{HeadingFirst, SaidOf}, Progress.progress}
+use Rattle.ffs_report.specs.{Paid.Paid, PhaseOutcome.{HeadingFirst, SaidOf}, Progress.progress}
+use Rattle.ffs_image.specs.Known.{ForBytes}
 use Rattle.ffs_volume.specs.{Directories.{Connectivity.connectivity_lines, Volumes.volume_of}, Report.Whole.phase3_messages}
 use Rattle.ffs_volume.specs.{Messages.Kinds.{lines_from, phase3}, Blocks.Inodes.inodes_of}
 use Rattle.ffs_workspace.specs.{Found.WithSurvey, Leaves.LeavesSurvey, Ready.CanRead}

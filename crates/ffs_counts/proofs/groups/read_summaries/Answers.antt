@@ -29,4 +29,5 @@ returns g c = record {
         (ap (λ (t : Table). t.window.place) c.forget.ensures ∙ at.starts ∙ sym c.summary_place-place.ensures)
         (ap (λ (t : Table). t.window.length) c.forget.ensures ∙ at.length ∙ ap (λ n. 16 * n) (sym c.min-count.ensures));
   };
+  asks = rw (c.summary_place-place.ensures, c.min-count.ensures) at c.fill.ensures.asks;
 }

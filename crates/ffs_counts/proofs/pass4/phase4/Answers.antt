@@ -1,13 +1,14 @@
 use Rattle.std.proofs.{Common.{◌≡◌, ◌∙◌, ◌+◌, arith, Err, Ok, refl}, lemmas.Result.err_from_is_err_and}
 use Rattle.ffs_volume.specs.Directories.{ReferenceCheck.reference_lines_at, Volumes.volume_of}
 use Rattle.ffs_volume.{proofs.Numbered.{as_many, count_next, from_next, from_end}, specs.Blocks.Inodes.inodes_of}
-use Rattle.ffs_report.{specs.Known.ForBytes, proofs.Paying.{paid_answer, paid_fault, paid_says, paid_stops, paid_then}}
+use Rattle.ffs_report.proofs.Paying.{paid_answer, paid_fault, paid_says, paid_stops, paid_then}
+use Rattle.ffs_image.specs.Known.{ForBytes}
 use Rattle.ffs_report.proofs.Reporting.{of_fault, of_part, of_same, reports_knowing, said_knows, says_heading}
 use Rattle.ffs_report.proofs.Reporting.{heading_alone, heading_part, stops_heading}
 use Rattle.ffs_workspace.specs.{Found.WithFindings}
 use Rattle.ffs_workspace.proofs.Leaving.{findings_held}
 use Rattle.ffs_counts.proofs.Holding.{held_on, lines_after, lines_begin, passed_lines}
-use Rattle.ffs_counts.proofs.pass4.phase4.Goals.{After-passed_from-passed, At-loop-number}
+use Rattle.ffs_counts.proofs.pass4.phase4.Goals.{After-skipped_from-skipped, At-loop-number}
 use Rattle.ffs_counts.proofs.pass4.phase4.Given as given
 use Rattle.ffs_counts.proofs.pass4.phase4.Goals as goal
 
@@ -18,10 +19,10 @@ known : (g : given.Over) (c : At-loop-number g) →
 known g c bytes k = grind (arith, findings_held)
 
 -- the inodes that are passed over have no lines
-passed : (g : given.Over) (c : After-passed_from-passed g) →
+passed : (g : given.Over) (c : After-skipped_from-skipped g) →
     ForBytes (WithFindings c.args.geometry.now.layout (g.I.Image.device c.args.image.now) c.args.workspace.now)
     (λ bytes. lines_after c.args.geometry.now.layout c.loop-number.number bytes
-    ≡ lines_after c.args.geometry.now.layout (c.loop-number.number + c.passed_from-passed.result) bytes)
+    ≡ lines_after c.args.geometry.now.layout (c.loop-number.number + c.skipped_from-skipped.result) bytes)
 passed g c bytes k = grind (arith, passed_lines)
 
 pub returns-in_err-say-clause-text : goal.returns-in_err-say-clause-text
@@ -64,13 +65,13 @@ returns-in_err-report_references-clause-text g c =
     (known g (goal.at.returns-in_err-report_references-clause-text g c).At-loop-number)
     c.in_err-report_references.ensures.text))
 
-pub loop-number-preserved-then-passed-eq0 : goal.loop-number-preserved-then-passed-eq0
-loop-number-preserved-then-passed-eq0 g c =
+pub loop-number-preserved-then-skipped-eq0 : goal.loop-number-preserved-then-skipped-eq0
+loop-number-preserved-then-skipped-eq0 g c =
     let v = c.args.geometry.now.layout in
     let inv = c.loop-number.invariant in
     let n = c.loop-number.number in
     let ok = c.in_ok-report_references.ensures in
-    let more = known g (goal.at.loop-number-preserved-then-passed-eq0 g c).At-loop-number in
+    let more = known g (goal.at.loop-number-preserved-then-skipped-eq0 g c).At-loop-number in
     record {
       within = omega (arith, c.loop-number-test.true);
       ready = ok.stays.can_read;

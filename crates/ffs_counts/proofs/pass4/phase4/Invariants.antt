@@ -1,5 +1,6 @@
 use Rattle.std.proofs.Common.{◌≡◌, ◌+◌, ◌-◌, ◌≤◌, length, Ok}
-use Rattle.ffs_report.specs.{Known.ForBytes, Paid.Paid, PhaseOutcome.{HeadingFirst, SaidOf}, Progress.progress}
+use Rattle.ffs_report.specs.{Paid.Paid, PhaseOutcome.{HeadingFirst, SaidOf}, Progress.progress}
+use Rattle.ffs_image.specs.Known.{ForBytes}
 use Rattle.ffs_volume.specs.Directories.{ReferenceCheck.{reference_lines_at, reference_lines}, Volumes.volume_of}
 use Rattle.ffs_volume.specs.{Messages.Kinds.{lines_from, phase4}, Report.Whole.phase4_messages, Blocks.Inodes.inodes_of}
 use Rattle.ffs_workspace.specs.{Found.WithFindings, Ready.CanRead}

@@ -2,7 +2,8 @@ use Rattle.std.proofs.{Common.{◌≡◌, ◌≤◌, ◌∙◌, arith, ap, lengt
 use Rattle.std.proofs.lemmas.Result.{err_from_is_err_and}
 use Rattle.ffs_volume.specs.Directories.{ReferenceCheck.reference_lines_at, Volumes.volume_of}
 use Rattle.ffs_volume.specs.Messages.Kinds.{TreeMessage, of_tree}
-use Rattle.ffs_report.{specs.Known.ForBytes, proofs.Paying.{paid_none, paid_reads, paid_says, paid_stops}}
+use Rattle.ffs_report.proofs.Paying.{paid_none, paid_reads, paid_says, paid_stops}
+use Rattle.ffs_image.specs.Known.{ForBytes}
 use Rattle.ffs_report.proofs.Reporting.{reads_first, says_all, says_none, stops_all}
 use Rattle.ffs_workspace.{specs.{Found.WithFindings, Ready.KeepsWindows}, proofs.{Readiness.can_read_table, TablePlaces.fails_in_table}}
 use Rattle.ffs_counts.{specs.References.lines_as, proofs.Holding.{inode_reference_lines_are, item_at, met_lines}}
@@ -54,7 +55,7 @@ returns-in_err-inode g c = record {
   text = grind (arith, err_from_is_err_and, reads_first);
   reads = λ bytes k.
       let line = one g (goal.at.returns-in_err-inode g c).After-inode bytes k in
-      omega (arith, line, c.in_err-inode.ensures.counted);
+      omega (arith, line, c.in_err-inode.ensures.inode.counted);
   paid = grind (arith, err_from_is_err_and, paid_reads);
   sector = grind (arith, err_from_is_err_and, fails_in_table);
   stays = grind (arith, can_read_table);
@@ -69,9 +70,9 @@ returns-in_err-say_if_any g c =
       text = stops_all (lines_are g at.After-line_for-line) c.in_err-say_if_any.ensures;
       reads = λ bytes k.
           let line = one g at.After-inode bytes k in
-          omega (arith, line, c.in_ok-inode.ensures.counted);
+          omega (arith, line, c.in_ok-inode.ensures.inode.counted);
       sector = tt;
-      paid = paid_stops _ c.in_err-say_if_any.ensures (some g at.After-line_for-line) c.in_ok-inode.ensures.counted;
+      paid = paid_stops _ c.in_err-say_if_any.ensures (some g at.After-line_for-line) c.in_ok-inode.ensures.inode.counted;
       stays = stays g at.In_ok-inode;
     })
 
@@ -83,8 +84,8 @@ returns g c =
       text = says_all (lines_are g at.After-line_for-line) c.in_ok-say_if_any.ensures;
       reads = λ bytes k.
           let line = one g at.After-inode bytes k in
-          omega (arith, line, c.in_ok-inode.ensures.counted);
+          omega (arith, line, c.in_ok-inode.ensures.inode.counted);
       sector = tt;
-      paid = paid_says _ c.in_ok-say_if_any.ensures (some g at.After-line_for-line) c.in_ok-inode.ensures.counted;
+      paid = paid_says _ c.in_ok-say_if_any.ensures (some g at.After-line_for-line) c.in_ok-inode.ensures.inode.counted;
       stays = stays g at.In_ok-inode;
     }

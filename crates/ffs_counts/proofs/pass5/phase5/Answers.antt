@@ -2,7 +2,8 @@ use Rattle.std.proofs.{Common.{◌≡◌, ◌∙◌, ◌+◌, ◌++◌, [], ap, 
 use Rattle.ffs_volume.specs.{declared.BlockMessage.TheVariants.FreeCounts, Groups.GroupCheck.AlreadyReported}
 use Rattle.ffs_volume.specs.{Groups.GroupCheck.{reported_once, unless}, Messages.Kinds.of_blocks}
 use Rattle.ffs_groups.specs.{Check.lines_of, Inodes.class_in}
-use Rattle.ffs_report.{specs.Known.ForBytes, proofs.Reporting.{of_says, of_stops, of_reads, says_heading}}
+use Rattle.ffs_report.proofs.Reporting.{of_says, of_stops, of_reads, says_heading}
+use Rattle.ffs_image.specs.Known.{ForBytes}
 use Rattle.ffs_report.proofs.Reporting.{heading_alone, heading_then, stops_heading}
 use Rattle.ffs_workspace.specs.Found.{WithClaims}
 use Rattle.ffs_counts.{specs.Once.{reported_of, reported_after}, proofs.GroupText.{counts_held, free_of, groups_begin}}

@@ -2,7 +2,7 @@ use Rattle.std.proofs.Common.{◌≡◌, ◌∙◌, arith, ap, length, refl, rul
 use Rattle.std.proofs.lemmas.Result.{err_from_is_err_and}
 use Rattle.ffs_volume.specs.Report.Whole.{file_count, claimed_count}
 use Rattle.ffs_maps.specs.Bits.{bits_of}
-use Rattle.ffs_report.specs.Known.{ForBytes}
+use Rattle.ffs_image.specs.Known.{ForBytes}
 use Rattle.ffs_workspace.specs.Holds.{HoldsClaims}
 use Rattle.ffs_counts.specs.Summing.{files_among}
 use Rattle.ffs_counts.proofs.{Classes.files_are, ReservedCount.used_are, summing.summary.Goals.After-summary_line}

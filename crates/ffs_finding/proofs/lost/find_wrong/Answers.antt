@@ -5,7 +5,8 @@ use Rattle.ffs_volume.specs.Groups.Records.{group_block}
 use Rattle.ffs_walk.specs.{Windows.held_bytes, declared.window.Window.Window}
 use Rattle.ffs_maps.specs.Bits.{bits_of}
 use Rattle.ffs_groups.specs.Free.{free_in}
-use Rattle.ffs_report.{specs.Known.{ForBytes, IsContents}, proofs.Sinks.took_nil}
+use Rattle.ffs_report.proofs.Sinks.{took_nil}
+use Rattle.ffs_image.specs.Known.{ForBytes, IsContents}
 use Rattle.ffs_counts.proofs.RecordPlaces.{block_inside}
 use Rattle.ffs_finding.proofs.{Printing.{prints_whether, stops}, LostGroups.{from_group, groups_begin, groups_end}}
 use Rattle.ffs_finding.proofs.LostGroups.{groups_next}

@@ -2,7 +2,8 @@ use Rattle.std.proofs.Common.{◌≡◌, ◌∙◌, ◌+◌, ◌++◌, ◌<◌, 
 use Rattle.std.proofs.{Common.{refl, sym, ap}, lemmas.{Bool.Decides.nat_tests, Result.err_from_is_err_and}}
 use Rattle.ffs_volume.specs.{declared.Layout.Layout, Encodings.Kinds.{is_allocated_kind, kind_at}}
 use Rattle.ffs_volume.specs.{Find.Owner.keeper_lines_of_inode, Blocks.Inodes.inodes_of, Encodings.Notes.note_at}
-use Rattle.ffs_report.{proofs.Sinks.took_nil, specs.{Known.ForBytes, declared.fault.RunFault.RunFault}}
+use Rattle.ffs_report.{proofs.Sinks.took_nil, specs.declared.fault.RunFault.RunFault}
+use Rattle.ffs_image.specs.Known.{ForBytes}
 use Rattle.ffs_workspace.specs.declared.workspace.Workspace.{Workspace}
 use Rattle.ffs_finding.specs.Claims.{WithOwners}
 use Rattle.ffs_claims.proofs.{Rescanned.runs_most, Frames.image_from}

@@ -1,6 +1,6 @@
 use Rattle.std.proofs.Common.{◌≡◌, ◌+◌, ◌-◌, ◌<◌, ◌≤◌}
 use Rattle.ffs_volume.specs.{Blocks.{KeptSteps.claims_before, Inodes.inodes_of}, Find.Owner.keeper_lines}
-use Rattle.ffs_report.specs.Known.{ForBytes}
+use Rattle.ffs_image.specs.Known.{ForBytes}
 use Rattle.ffs_workspace.specs.Ready.{KeepsWindows}
 use Rattle.ffs_finding.specs.Claims.{WithOwners}
 use Rattle.ffs_finding.{specs.Outcome.PrintedTo, proofs.Owners.keepers_from}

@@ -5,7 +5,7 @@ use Rattle.ffs_volume.specs.{Blocks.Claims.is_set, Disk.Areas.is_reserved, Laws.
 use Rattle.ffs_volume.specs.{declared.Layout.Layout, Find.Owner.{keeper_lines, or_lines, lines_of_fragment}}
 use Rattle.ffs_volume.specs.Find.Owner.{reserved_text}
 use Rattle.ffs_maps.specs.Bits.{bits_of}
-use Rattle.ffs_report.specs.Known.{ForBytes}
+use Rattle.ffs_image.specs.Known.{ForBytes}
 use Rattle.ffs_workspace.specs.declared.workspace.Workspace.{Workspace}
 use Rattle.ffs_finding.{specs.{Claims.{HoldsOwners, WithOwners}, Keepers.map_lines}, proofs.{Claimed.{claimed_is, has_line}, Keepers.same_lines}}
 use Rattle.ffs_finding.proofs.Leaving.{block_read, size_after}

@@ -3,7 +3,8 @@ use Rattle.std.proofs.lemmas.{Bool.Decides.nat_tests, Result.err_from_is_err_and
 use Rattle.ffs_volume.specs.Encodings.{Replay.{fresh_replay, is_replay_open}, ReplayCounts.replay_step_by_cut}
 use Rattle.ffs_volume.specs.{Encodings.ReplayCounts.replayed_runs, declared.Step.TheVariants.Gap}
 use Rattle.ffs_volume.{proofs.ReplayLaws.gaps_seen, specs.Find.Owner.indirect_in}
-use Rattle.ffs_report.{proofs.Sinks.took_nil, specs.Known.{ForBytes, IsContents}}
+use Rattle.ffs_report.proofs.Sinks.{took_nil}
+use Rattle.ffs_image.specs.Known.{ForBytes, IsContents}
 use Rattle.ffs_walk.{proofs.Counted.{top_held, top_unread}, specs.{Keepings.replay_in, Rests.steps_left}}
 use Rattle.ffs_claims.proofs.Rewalks.{runs_next}
 use Rattle.ffs_finding.{specs.Keepers.{lines_again, step_lines_again}, proofs.Printing.{prints, stops}}

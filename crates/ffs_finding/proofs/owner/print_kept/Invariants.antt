@@ -1,7 +1,7 @@
 use Rattle.std.proofs.Common.{◌≡◌, ◌+◌, ◌<◌, ◌≤◌, ◌^◌, true}
 use Rattle.ffs_volume.specs.{Blocks.Steps.steps_of, Encodings.Replay.{fresh_replay, is_replay_open}}
 use Rattle.ffs_volume.specs.Encodings.ReplayCounts.{replayed_runs}
-use Rattle.ffs_report.specs.Known.{ForBytes, IsContents}
+use Rattle.ffs_image.specs.Known.{ForBytes, IsContents}
 use Rattle.ffs_walk.specs.{Counts.{AreHeld, unread}, Keepings.replay_in, Rests.{most_steps_left, steps_left}}
 use Rattle.ffs_walk.specs.Windows.{KeepsBlocks}
 use Rattle.ffs_finding.specs.{Keepers.lines_again, Outcome.PrintedTo}

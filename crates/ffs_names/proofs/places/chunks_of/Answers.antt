@@ -18,10 +18,10 @@ returns-in-Some-clause-chunks g c = λ b t n dir.
 pub returns-clause-chunks : goal.returns-clause-chunks
 returns-clause-chunks g c = λ b t n dir.
     let v = c.args.geometry.now.layout in
-    let read = read_by_cut v b c.args.dir c.args.geometry.now.sound dir (c.in_ok-inode.ensures.reads.inode b t) n
+    let read = read_by_cut v b c.args.dir c.args.geometry.now.sound dir (c.in_ok-inode.ensures.inode.reads.inode b t) n
     c.cut_in.ensures in
     let begins = c.of_class-2.ensures.begins (sym read.is_dir) in
-    let one = c.in_ok-inode.ensures.counted in
+    let one = c.in_ok-inode.ensures.inode.counted in
     record {
       chunks = ap (flat_map roled_chunk) (begins.chunks b read.small) ∙ read.entries;
       within = omega (

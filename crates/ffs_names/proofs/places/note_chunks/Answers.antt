@@ -15,7 +15,7 @@ chunks-preserved g c =
     let now = λ (b : List ℕ) (t : (g.I.Image.device c.args.image.now).contents ≡ Some b). ap (λ d. d.contents) inv.same
     ∙ t in
     let noted : (b : List ℕ) → (g.I.Image.device c.args.image.now).contents ≡ Some b → NotesNext v b
-    c.args.parents.now.items c.chunks.words.items c.note_chunk.new.words.items c.args.dir c.place_of-place.result
+    c.args.parents.now.items c.chunks.words.items c.note_chunk.new.words.items c.args.dir c.word_of_part-word.result
     c.last_place.result c.in-Some._offset c.next.new.chunk (rest b c.chunks.chunks) (rest b c.next.new.self)
     c.chunks.chunks.run_cursor c.next.new.self.run_cursor = λ b t.
     record {
@@ -24,7 +24,7 @@ chunks-preserved g c =
       fits = rw (went.leaves.geometry ∙ inv.geometry) at c.next.new.self.cursor_fits;
       steps = rw c.in-Some.is at went.leaves.steps;
       unnamed = inv.unnamed b t;
-      number = rw (went.leaves.geometry ∙ inv.geometry) at c.place_of-place.ensures.value;
+      number = rw (went.leaves.geometry ∙ inv.geometry) at c.word_of_part-word.ensures.value;
       inside = rw (sym c.last_place.ensures, inv.geometry) at (rw c.in-Some.is at went.leaves.place).inside;
       held = (rw c.in-Some.is at went.leaves.place).bytes b (now b t)
           ∙ ap (λ (n : ℕ). piece n 512 b) (sym c.last_place.ensures);

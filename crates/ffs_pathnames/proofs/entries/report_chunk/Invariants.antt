@@ -1,10 +1,11 @@
 use Rattle.std.proofs.Common.{◌≡◌, ◌+◌, ◌-◌, ◌*◌, ◌≤◌, ℕ, IsTrue, List, length, map, Ok}
 use Rattle.ffs_volume.specs.Directories.{Entries.entries_of, Parents.graph_of, Roles.roled_from, Volumes.volume_of}
 use Rattle.ffs_volume.specs.{Messages.Kinds.of_tree, Report.Reads.line_reads, Encodings.Places.AreNoted}
-use Rattle.ffs_report.specs.{Known.ForBytes, Paid.Paid, PhaseOutcome.SaidOf, Progress.progress}
+use Rattle.ffs_report.specs.{Paid.Paid, PhaseOutcome.SaidOf, Progress.progress}
+use Rattle.ffs_image.specs.Known.{ForBytes}
 use Rattle.ffs_workspace.specs.Leaves.{LeavesSurvey}
 use Rattle.ffs_names.specs.EntriesToCome.{roled_to_come}
-use Rattle.ffs_pathnames.specs.{Ready.ReadyWith, Gathers.passed_of, Stamps.KeepPlaces, PassedNames.after_entries}
+use Rattle.ffs_pathnames.specs.{Ready.ReadyWith, Gathers.passed_of, Stamps.KeepParts, PassedNames.after_entries}
 use Rattle.ffs_pathnames.specs.{PassedNames.entries_reported, LineReads.{again_reads, path_owed}}
 use Rattle.ffs_pathnames.{proofs.LineCounts.HasRead, specs.DirectoryContext.{BeginsPathOf, DirectoryContext, KnowsPath}}
 use Rattle.ffs_pathnames.proofs.entries.report_chunk.Given as goal
@@ -24,7 +25,7 @@ invariant-entries g l =
       ready : ReadyWith v (reported_by l.image) l.workspace l.texts.kept_parent;
       device : reported_by l.image ≡ reported_by l.fn.image;
       survey : LeavesSurvey l.fn.workspace l.workspace;
-      places : KeepPlaces l.fn.workspace.queue.items l.workspace.queue.items;
+      places : KeepParts l.fn.workspace.queue.items l.workspace.queue.items;
       current : l.workspace.windows.current ≡ l.fn.workspace.windows.current;
       path : ForBytes knows_path (λ b. BeginsPathOf (graph_of (volume_of v b)) x.dir l.texts);
       settled : IsTrue l.fn.texts.path_settled → IsTrue l.texts.path_settled;

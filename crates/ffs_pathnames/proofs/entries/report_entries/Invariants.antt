@@ -3,9 +3,10 @@ use Rattle.ffs_volume.specs.{Messages.Kinds.of_tree, Report.Reads.{line_reads, p
 use Rattle.ffs_volume.specs.Directories.{Parents.graph_of, Roles.{roled_chunk, roled_entries}, Volumes.volume_of}
 use Rattle.ffs_volume.specs.{Report.DirectoryReads.directory_runs, Encodings.Places.AreNoted}
 use Rattle.ffs_pathnames.specs.{LineReads.{again_reads, path_owed}, Ready.ReadyWith, Gathers.passed_of}
-use Rattle.ffs_pathnames.specs.{Stamps.KeepPlaces, DirectoryContext.BeginsPathOf, ReadsLeft.LeftForRuns}
+use Rattle.ffs_pathnames.specs.{Stamps.KeepParts, DirectoryContext.BeginsPathOf, ReadsLeft.LeftForRuns}
 use Rattle.ffs_pathnames.specs.PassedNames.{after_entries, entries_reported}
-use Rattle.ffs_report.specs.{Known.ForBytes, Paid.Paid, PhaseOutcome.SaidOf, Progress.progress}
+use Rattle.ffs_report.specs.{Paid.Paid, PhaseOutcome.SaidOf, Progress.progress}
+use Rattle.ffs_image.specs.Known.{ForBytes}
 use Rattle.ffs_names.specs.{Readings.rest, Costs.{to_read, HoldsReading}}
 use Rattle.ffs_workspace.specs.Leaves.{LeavesSurvey}
 use Rattle.ffs_pathnames.proofs.entries.report_entries.Given as goal
@@ -25,7 +26,7 @@ invariant-chunks g l =
       device : reported_by l.image ≡ reported_by l.fn.image;
       geometry : l.chunks.walk.geometry ≡ l.geometry;
       survey : LeavesSurvey l.fn.workspace l.workspace;
-      places : KeepPlaces l.fn.workspace.queue.items l.workspace.queue.items;
+      places : KeepParts l.fn.workspace.queue.items l.workspace.queue.items;
       path : ForBytes known (λ b. BeginsPathOf (graph_of (volume_of v b)) x.number l.checking.texts);
       passed : ForBytes known (λ b.
           after_entries (volume_of v b) x.number (passed_of l.fn.workspace) (roled_entries (volume_of v b) x.number)

@@ -13,7 +13,7 @@ known : (g : Over) (c : After-look_directory g) (b : List ℕ) → DirectoryCont
     { windows = record c.args.workspace.now.windows { table = c.inode_by_part.new.self } })
     (record { number = c.args.dir; inode = c.in_ok-inode.inode; cut = c.noted_cut.result }) b
 known g c b k =
-    let read = c.in_ok-inode.ensures.reads in (
+    let read = c.in_ok-inode.ensures.inode.reads in (
       record {
         gives_bytes = ap (λ d. d.contents) read.read ∙ k.gives_bytes;
         claims = claims_held _ b _ _ refl k.claims;

@@ -15,7 +15,8 @@ use Rattle.ffs_volume.specs.Messages.Kinds.{of_tree, TreeMessage, Message, of_di
 use Rattle.ffs_volume.specs.{Directories.PathnameCheck.{continues_after_root, pathname_lines}, Report.Reads.line_reads}
 use Rattle.ffs_volume.specs.declared.{Layout.Layout, tree_lines.DirectoryLine.TheVariants.{RootNone, RootNotDir}}
 use Rattle.ffs_report.proofs.{Reporting.{of_begins, of_says, of_stops, of_part, of_fault}, Paying.paid_said}
-use Rattle.ffs_report.{proofs.Paying.{paid_answer, paid_fault, paid_text, paid_then}, specs.Known.ForBytes}
+use Rattle.ffs_report.proofs.Paying.{paid_answer, paid_fault, paid_text, paid_then}
+use Rattle.ffs_image.specs.Known.{ForBytes}
 use Rattle.ffs_report.specs.{PhaseOutcome.{ImageAfter, PhaseReports}, Progress.Progress}
 use Rattle.ffs_report.specs.declared.fault.RunFault.{RunFault, TheVariants.{Read, Out}}
 use Rattle.ffs_image.specs.Device.{Device}

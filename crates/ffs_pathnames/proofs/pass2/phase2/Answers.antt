@@ -3,7 +3,8 @@ use Rattle.std.proofs.{Common.{map, sym, true, false}, lemmas.{Bool.both_ways, R
 use Rattle.ffs_image.specs.Device.{Device}
 use Rattle.ffs_report.proofs.Reporting.{heading_alone, heading_part, heading_reads, of_reads, of_last, reports_knowing}
 use Rattle.ffs_report.proofs.Reporting.{says_heading, stops_heading}
-use Rattle.ffs_report.{proofs.Paying.{paid_said, paid_text, paid_then}, specs.{Known.ForBytes, Progress.Progress}}
+use Rattle.ffs_report.{proofs.Paying.{paid_said, paid_text, paid_then}, specs.Progress.Progress}
+use Rattle.ffs_image.specs.Known.{ForBytes}
 use Rattle.ffs_report.specs.{Progress.Said, declared.fault.RunFault.{RunFault, TheVariants.{Read, Out}}}
 use Rattle.ffs_report.proofs.Reports.{said_then}
 use Rattle.ffs_volume.specs.{Messages.Kinds.{phase2, Message, of_tree}, declared.Layout.Layout}
@@ -89,12 +90,12 @@ returns-in_err-say-clause-text g c =
     let p = err_from_is_err_and c.from_residual.result c.from_residual.ensures.1 in
     rw (p.1, p.2) (stops_heading c.in_err-say.ensures.said)
 
-pub returns-in_err-say-clause-leaves : goal.returns-in_err-say-clause-leaves
-returns-in_err-say-clause-leaves g c =
+pub returns-in_err-say-clause-ends : goal.returns-in_err-say-clause-ends
+returns-in_err-say-clause-ends g c =
     let p = err_from_is_err_and c.from_residual.result c.from_residual.ensures.1 in rw (p.1, p.2) (λ b k. k.1)
 
-pub returns-in_err-survey-clause-leaves : goal.returns-in_err-survey-clause-leaves
-returns-in_err-survey-clause-leaves g c = grind arith
+pub returns-in_err-survey-clause-ends : goal.returns-in_err-survey-clause-ends
+returns-in_err-survey-clause-ends g c = grind arith
 
 pub returns-in_err-survey-clause-text : goal.returns-in_err-survey-clause-text
 returns-in_err-survey-clause-text g c =
@@ -106,17 +107,17 @@ returns-clause-text g c =
     of_last Root _ _ _ _ _ _ _ c.check_tree.result (says_heading (λ b k. refl) c.in_ok-say.ensures.said) (λ b k. refl) (reports_knowing Root _ _ _ _ _ c.check_tree.result
     (λ b k. before_tree g (goal.at.returns-clause-text g c).After-check_tree b k) c.check_tree.ensures.tree.text)
 
-pub returns-clause-leaves : goal.returns-clause-leaves
-returns-clause-leaves g c =
+pub returns-clause-ends : goal.returns-clause-ends
+returns-clause-ends g c =
     let v = c.args.geometry.now.layout in
     let tree = c.check_tree.ensures.tree in
     ends_by v (g.I.Image.device c.args.image.now) (g.I.Image.device c.survey.new.image) _ c.clear_passed.new.workspace _
     _ _ c.check_tree.result
-    (λ b k. before_tree g (goal.at.returns-clause-leaves g c).After-check_tree b k)
+    (λ b k. before_tree g (goal.at.returns-clause-ends g c).After-check_tree b k)
     (λ b k. references_on v b _ _ (tree.findings.references ∙ c.clear_passed.ensures.survey.findings.references)
-    (c.in_ok-survey.ensures.survey b k).references) (λ b k. claims_after g (goal.at.returns-clause-leaves g c).After-check_tree b k) c.check_tree.ensures.root tree.holds
+    (c.in_ok-survey.ensures.survey b k).references) (λ b k. claims_after g (goal.at.returns-clause-ends g c).After-check_tree b k) c.check_tree.ensures.root tree.holds
     (stop_after v (g.I.Image.device c.args.image.now) (g.I.Image.device c.survey.new.image) _ c.clear_passed.new.workspace
-    _ _ _ c.check_tree.result (λ b k. before_tree g (goal.at.returns-clause-leaves g c).After-check_tree b k)
+    _ _ _ c.check_tree.result (λ b k. before_tree g (goal.at.returns-clause-ends g c).After-check_tree b k)
     c.in_ok-say.ensures.said c.check_tree.ensures.stop)
 
 -- its heading, of any image
@@ -189,7 +190,7 @@ returns-in_err-say-clause-reads g c = record {
   known = λ b k. omega arith;
   directories = λ b k. omega arith;
   looked_at = λ first b k. omega arith;
-  again = λ second b k. omega arith;
+  surveyed_before = λ second b k. omega arith;
   stopped = λ b k ends. omega arith;
 }
 
@@ -203,7 +204,7 @@ returns-in_err-survey-clause-reads g c = record {
       let v = c.args.geometry.now.layout in
       omega (arith, c.survey.ensures.reads.each b k, noted_all_within v b (v.ncg * v.ipg));
   looked_at = λ first b k. omega (arith, c.survey.ensures.reads.each b k);
-  again = λ second b k. let unread = (c.survey.ensures.again second).unread in omega (arith, unread);
+  surveyed_before = λ second b k. let unread = (c.survey.ensures.again second).unread in omega (arith, unread);
   stopped = λ b k ends. omega (arith, c.survey.ensures.reads.each b k);
 }
 
@@ -227,7 +228,7 @@ returns-clause-reads g c = record {
       let checks = looked_at_first v b c.survey.new.workspace c.clear_passed.new.workspace claims flags
       c.clear_passed.ensures in
       omega (arith, c.survey.ensures.reads.each b k, c.check_tree.ensures.tree.looks b before checks);
-  again = λ second b k.
+  surveyed_before = λ second b k.
       let before = before_tree g (goal.at.returns-clause-reads g c).After-check_tree b k in
       let unread = (c.survey.ensures.again second).unread in
       omega (arith, unread, c.check_tree.ensures.tree.reads b before);

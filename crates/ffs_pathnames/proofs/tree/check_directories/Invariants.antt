@@ -1,5 +1,6 @@
 use Rattle.std.proofs.Common.{◌≡◌, ℕ, List, ◌+◌, ◌*◌, ◌-◌, ◌≤◌, length, map, Ok}
-use Rattle.ffs_report.specs.{Known.ForBytes, Paid.Paid, PhaseOutcome.SaidOf, Progress.progress}
+use Rattle.ffs_report.specs.{Paid.Paid, PhaseOutcome.SaidOf, Progress.progress}
+use Rattle.ffs_image.specs.Known.{ForBytes}
 use Rattle.ffs_volume.specs.{Messages.Kinds.{of_tree, lines_from}, Report.Reads.{line_reads, sweep_reads}}
 use Rattle.ffs_volume.specs.{Directories.{PathnameCheck.directory_lines, Volumes.volume_of}, Blocks.Inodes.inodes_of}
 use Rattle.ffs_volume.specs.Report.DirectoryReads.{is_looked_at, places_cost, costs_all, costs_below, directories_cost}

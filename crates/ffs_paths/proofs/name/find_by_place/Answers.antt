@@ -2,13 +2,13 @@ use Rattle.std.proofs.Common.{◌≡◌, ◌*◌, ◌/◌, ◌∙◌, ap, length
 use Rattle.std.{proofs.{Common.length-take, lemmas.List.get_or_default}, specs.List.list_any}
 use Rattle.ffs_volume.specs.{Directories.Graph.is_naming_entry}
 use Rattle.ffs_paths.{specs.Climbing.name_in, proofs.Keeping.name_read}
-use Rattle.ffs_volume.specs.Encodings.Places.{entries_in_chunks, entries_in_part, part_size, place_in}
+use Rattle.ffs_volume.specs.Encodings.Places.{entries_in_chunks, entries_in_part, part_size, part_in}
 use Rattle.ffs_paths.proofs.name.find_by_place.Given as given
 use Rattle.ffs_paths.proofs.name.find_by_place.Goals as goal
 
 -- the part that is looked at is the noted one
 part_is : (g : given.Over) (c : goal.After-find_in_chunks g) →
-    place_in (slice_index c.args.workspace.now.queue.items c.args.dir) ≡ suc c.in-Some.part
+    part_in (slice_index c.args.workspace.now.queue.items c.args.dir) ≡ suc c.in-Some.part
 part_is g c = grind (arith, get_or_default)
 
 -- its entries are those of the bytes that were read

@@ -33,7 +33,7 @@ returns-then-is_naming-clause-name g c = λ b t claims survey is dir.
     let i = c.entries.invariant in
     let o = rw c.in-Some.is at c.in_ok-entry.ensures.entry in
     c.set.ensures ∙ (c.name.ensures ∙ sym (ap (name_in c.args.dir) (begun c.args.parent c.args.geometry.now.sound
-    claims dir (c.in_ok-inode.ensures.reads.inode b t) c.noted_cut-cut.ensures c.start-entries.ensures.begins)
+    claims dir (c.in_ok-inode.ensures.inode.reads.inode b t) c.noted_cut-cut.ensures c.start-entries.ensures.begins)
     ∙ (i.name b t ∙ (ap (name_in c.args.dir) (o b (ap (λ d. d.contents) i.reads.read ∙ t)).entries
     ∙ name_in-by c.args.dir (roled_of c.in-Some.entry (last_name c.next.new.self)) (to_come b c.next.new.self)
     (sym c.is_naming.ensures ∙ c.if-is_naming.true)))))
@@ -44,7 +44,7 @@ returns-clause-name g c = λ b t claims survey is dir.
     let i = c.entries.invariant in
     let o = rw c.in_default.is at c.in_ok-entry.ensures.entry in
     i.none ∙ sym (ap (name_in c.args.dir) (begun c.args.parent c.args.geometry.now.sound
-    claims dir (c.in_ok-inode.ensures.reads.inode b t) c.noted_cut-cut.ensures c.start-entries.ensures.begins)
+    claims dir (c.in_ok-inode.ensures.inode.reads.inode b t) c.noted_cut-cut.ensures c.start-entries.ensures.begins)
     ∙ (i.name b t ∙ ap (name_in c.args.dir) (o b (ap (λ d. d.contents) i.reads.read ∙ t)).entries))
 
 pub entries-init : goal.entries-init
@@ -55,9 +55,9 @@ entries-init g c = record {
   reads = grind arith;
   counted = λ b k.
       let begins = c.start-entries.ensures.begins in
-      let few = runs_begun c.args.parent c.args.geometry.now.sound k.1 (c.in_ok-inode.ensures.reads.inode b k.0)
+      let few = runs_begun c.args.parent c.args.geometry.now.sound k.1 (c.in_ok-inode.ensures.inode.reads.inode b k.0)
       c.noted_cut-cut.ensures begins in
-      (omega (arith, c.inode_by_part.ensures.counted, few), begins.held _ _);
+      (omega (arith, c.inode_by_part.ensures.inode.counted, few), begins.held _ _);
 }
 
 pub entries-preserved : goal.entries-preserved

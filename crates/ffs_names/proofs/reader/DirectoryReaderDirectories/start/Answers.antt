@@ -38,7 +38,7 @@ returns-clause-rest g c = λ b k.
     let t = c.args.self.now in
     let v = t.geometry.layout in
     let dir = is_dir_here g at b k.kinds in
-    let read = read_by_cut v b c.args.dir t.geometry.sound dir (c.in_ok-inode.ensures.reads.inode b k.bytes)
+    let read = read_by_cut v b c.args.dir t.geometry.sound dir (c.in_ok-inode.ensures.inode.reads.inode b k.bytes)
     (note_here g at b k.notes) c.cut_in.ensures in
     (((rw c.requires.ready.1 at c.restart.ensures.begins) (sym read.is_dir)).gives b read.small).entries
     ∙ (read.entries ∙ sym (ap (λ x. if x then roled_entries (volume_of v b) c.args.dir else []) dir))
@@ -49,7 +49,7 @@ returns-clause-shape g c = λ b k.
     let t = c.args.self.now in
     let v = t.geometry.layout in
     let dir = is_dir_here g at b k.kinds in
-    let read = read_by_cut v b c.args.dir t.geometry.sound dir (c.in_ok-inode.ensures.reads.inode b k.bytes)
+    let read = read_by_cut v b c.args.dir t.geometry.sound dir (c.in_ok-inode.ensures.inode.reads.inode b k.bytes)
     (note_here g at b k.notes) c.cut_in.ensures in
     (((rw c.requires.ready.1 at c.restart.ensures.begins) (sym read.is_dir)).gives b read.small).shape
     ∙ (read.shape ∙ sym (ap (λ x. x && is_right_shape (volume_of v b) c.args.dir) dir))
@@ -89,13 +89,13 @@ returns-clause-counted g c = λ b k.
     let t = c.args.self.now in
     let v = t.geometry.layout in
     let dir = is_dir_here g at b k.kinds in
-    let read = read_by_cut v b c.args.dir t.geometry.sound dir (c.in_ok-inode.ensures.reads.inode b k.bytes)
+    let read = read_by_cut v b c.args.dir t.geometry.sound dir (c.in_ok-inode.ensures.inode.reads.inode b k.bytes)
     (note_here g at b k.notes) c.cut_in.ensures in
     let begins = (rw c.requires.ready.1 at c.restart.ensures.begins) (sym read.is_dir) in
     let cost = noted_is v b c.args.dir dir in
     let read_one = inode_read v b c.args.dir c.index-note.result.now (note_here g at b k.notes)
     (rw c.in_default.is at c.address_in.ensures) in
-    let one = c.in_ok-inode.ensures.counted in
+    let one = c.in_ok-inode.ensures.inode.counted in
     record {
       most = omega (arith, one, cost, read_one);
       paid = omega (arith, one, cost, read_one, read.runs, begins.to_read b);
@@ -126,4 +126,4 @@ returns-in_err-inode-clause-counted g c =
     let cost = noted_is v b c.args.dir (is_dir_here g at b k.kinds) in
     let read_one = inode_read v b c.args.dir c.index-note.result.now (note_here g at b k.notes)
     (rw c.in_default.is at c.address_in.ensures) in
-    record { most = omega (arith, c.in_err-inode.ensures.counted, cost, read_one); paid = tt; held = tt })
+    record { most = omega (arith, c.in_err-inode.ensures.inode.counted, cost, read_one); paid = tt; held = tt })

@@ -4,11 +4,11 @@ use Rattle.ffs_image.specs.Device.{Device}
 use Rattle.ffs_walk.proofs.Splices.{held_without, held_with}
 use Rattle.ffs_walk.proofs.blocks.Blocks.fill.Goals as goal
 
-pub returns-in_err-read_at : goal.returns-in_err-read_at
-returns-in_err-read_at g c = grind (arith, common_steps, held_without)
+pub returns-in_err-read_at-clause-fills : goal.returns-in_err-read_at-clause-fills
+returns-in_err-read_at-clause-fills g c = grind (arith, common_steps, held_without)
 
-pub returns : goal.returns
-returns g c =
+pub returns-clause-fills : goal.returns-clause-fills
+returns-clause-fills g c =
     let v = c.args.geometry.now.layout in
     let held = c.args.self.now.held in
     let level = c.args.level in

@@ -2,8 +2,8 @@ use Rattle.std.proofs.{Common.{arith, refl, rules, ◌∙◌}, lemmas.Grind.comm
 use Rattle.ffs_workspace.proofs.TablePlaces.{inodes_there}
 use Rattle.ffs_workspace.proofs.table.Table.read_piece.Goals as goal
 
-pub returns : goal.returns
-returns g c = record {
+pub returns-clause-reads : goal.returns-clause-reads
+returns-clause-reads g c = record {
   has = grind (arith, common_steps);
   piece = record {
     first = refl;

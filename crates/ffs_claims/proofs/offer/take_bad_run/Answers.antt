@@ -2,7 +2,7 @@ use Rattle.std.proofs.{Common.{◌≡◌, nat_lt, true, arith, refl, sym}, lemma
 use Rattle.ffs_report.proofs.Reports.{said_none}
 use Rattle.ffs_workspace.specs.Holds.{claims_of}
 use Rattle.ffs_claims.proofs.{Frames.{offers_claimed, stay}, UnclaimedRuns.only_kept}
-use Rattle.ffs_claims.proofs.offer.offers_of_bad_run.Goals as goal
+use Rattle.ffs_claims.proofs.offer.take_bad_run.Goals as goal
 
 pub returns-then-run-geometry : goal.returns-then-run-geometry
 returns-then-run-geometry g c =

@@ -3,7 +3,7 @@ use Rattle.ffs_volume.specs.Blocks.Claims.{after_offers, lines_of_offers}
 use Rattle.ffs_report.specs.{PhaseOutcome.SaidTo, Progress.progress}
 use Rattle.ffs_workspace.specs.Holds.{claims_of}
 use Rattle.ffs_claims.specs.{Leaves.OffersOnly, Lines.of_lines}
-use Rattle.ffs_claims.proofs.offer.offers.Given as goal
+use Rattle.ffs_claims.proofs.offer.take_offers.Given as goal
 
 abbrev pub invariant-loop-index : goal.invariant-loop-index
 invariant-loop-index g l = let v = l.geometry.layout in

@@ -6,7 +6,7 @@ use Rattle.ffs_workspace.specs.declared.workspace.Workspace.{Workspace}
 use Rattle.ffs_counts.specs.References.{is_right_by}
 
 -- the lists are as long as that of kinds, which has the inode `first`
-pub record CanPass (w : Workspace) (first : ℕ) : Type 0 where
+pub record CanSkipFrom (w : Workspace) (first : ℕ) : Type 0 where
   pub inside : first < vec_len w.kinds
   pub marked : vec_len w.marked ≡ vec_len w.kinds
   pub references : vec_len w.references ≡ vec_len w.kinds
@@ -18,7 +18,7 @@ pub record AreRightFrom (w : Workspace) (first n : ℕ) : Type 0 where
 
 -- so many inodes from `first` on are right or aren't allocated, and there are none only where that one
 -- is allocated
-pub record ArePassedFrom (w : Workspace) (first n : ℕ) : Type 0 where
+pub record AreSkippedFrom (w : Workspace) (first n : ℕ) : Type 0 where
   pub within : first + n ≤ vec_len w.kinds
   pub right : (k : ℕ) → k < n → is_allocated (class_in w.kinds.items (first + k)) ≡ true →
       is_right_by w (first + k) ≡ true

@@ -4,17 +4,18 @@ use Rattle.ffs_volume.{proofs.Potentials.moves_then}
 use Rattle.ffs_volume.specs.Blocks.Claims.{after_step, after_steps, lines_of_steps, is_open}
 use Rattle.ffs_volume.specs.Blocks.Steps.{steps_of}
 use Rattle.ffs_volume.specs.{declared.Step.TheVariants.Gap, Report.VolumeReads.indirect_in_steps}
-use Rattle.ffs_report.{proofs.Reporting.{of_begins, of_stops, of_reads, of_same, says_none}, specs.Known.ForBytes}
-use Rattle.ffs_report.specs.Known.{IsContents}
+use Rattle.ffs_report.proofs.Reporting.{of_begins, of_stops, of_reads, of_same, says_none}
+use Rattle.ffs_image.specs.Known.{ForBytes}
+use Rattle.ffs_image.specs.Known.{IsContents}
 use Rattle.ffs_walk.{proofs.{Counted.{top_held, top_unread}, WalkSteps.top_ends}, specs.Rests.steps_left}
 use Rattle.ffs_workspace.specs.Holds.{claims_of}
 use Rattle.ffs_claims.proofs.{Frames.{can_walk, ready_still, ready_read, only_then}, Inodes.{sees_next, moves_on}}
 use Rattle.ffs_claims.proofs.{Inodes.{seen_bound, claiming_none, claiming_walked, claiming_on}, StepsContinue.cut_over}
 use Rattle.ffs_claims.proofs.Inodes.{step_most, steps_rise}
 use Rattle.ffs_claims.proofs.StepsContinue.{gaps_over, claims_on, lines_on, steps_said, without_steps}
-use Rattle.ffs_claims.proofs.{IndirectReads.{gaps_unseen, indirect_on}, claim.claim.Goals.{in-Gap, in_default-matches}}
+use Rattle.ffs_claims.proofs.{IndirectReads.{gaps_unseen, indirect_on}, claim.claim_steps.Goals.{in-Gap, in_default-matches}}
 use Rattle.ffs_claims.{proofs.WordClaims.{sees_for, words_for}, specs.Lines.of_lines}
-use Rattle.ffs_claims.proofs.claim.claim.Goals as goal
+use Rattle.ffs_claims.proofs.claim.claim_steps.Goals as goal
 
 pub returns-then-not-has_steps : goal.returns-then-not-has_steps
 returns-then-not-has_steps g c =
@@ -131,8 +132,8 @@ returns-in_err-next g c =
       );
     })
 
-pub step-requires : goal.step-requires
-step-requires g c =
+pub claim_step-requires : goal.claim_step-requires
+claim_step-requires g c =
     let inv = c.loop-next.invariant in
     let read = claiming_walked c.in_ok-next.ensures.leaves.read inv.geometry c.next.ensures.leaves.kept inv.left in
     record {
@@ -156,10 +157,10 @@ returns-in_err-seen g c =
           c.in-Some.next next refl) c.in_err-seen.ensures.claims.said;
       claims = tt;
       image = c.in_ok-next.ensures.leaves.read ∙ inv.device;
-      left = claiming_on c.step.ensures.left
-          (omega (arith, c.step.ensures.claims.runs, step_most v s c.in-Some.next)) tt read;
+      left = claiming_on c.claim_step.ensures.left
+          (omega (arith, c.claim_step.ensures.claims.runs, step_most v s c.in-Some.next)) tt read;
       walk = c.in_ok-next.ensures.same.geometry ∙ inv.geometry;
-      counted = omega (arith, paid, inv.counted, c.step.ensures.claims.counted);
+      counted = omega (arith, paid, inv.counted, c.claim_step.ensures.claims.counted);
       known = λ bytes t. omega (
         arith,
         paid,
@@ -168,7 +169,7 @@ returns-in_err-seen g c =
       );
       most = λ bytes t. omega (
         arith,
-        c.step.ensures.claims.runs,
+        c.claim_step.ensures.claims.runs,
         steps_rise v (after_step v s c.in-Some.next) (steps_left bytes c.next.new.self),
         ap (λ xs. (after_steps v s xs).runs) (next bytes t),
         ap (λ s. s.runs) (inv.claims bytes t),
@@ -221,7 +222,7 @@ pub claim_words-requires : goal.claim_words-requires
 claim_words-requires g c =
     let inv = c.loop-next.invariant in
     let sound = c.args.geometry.now.sound in
-    let left = c.step.ensures.left in
+    let left = c.claim_step.ensures.left in
     let now = c.in_ok-seen.ensures.claims in
     sees_for (sym (ap (λ k. k.layout) (c.in_ok-next.ensures.same.geometry ∙ inv.geometry)))
     (sees_next sound c.requires.begun left.only.made left.all_in_range (sym now.seen ∙ c.if-not-seen.false)
@@ -240,10 +241,10 @@ loop-next-preserved g c =
     let words = words_for (ap (λ k. k.layout) walk) c.claim_words.ensures in
     let reads = c.in_ok-next.ensures.counted inv.held in
     let paid = rw c.in-Some.is at reads.paid in
-    let left = c.step.ensures.left in
+    let left = c.claim_step.ensures.left in
     let now = c.in_ok-seen.ensures.claims.claims in
     let claimed = ready_still left.only.made left.only.windows read.claim.ready in
-    let moves = moves_then _ (claims_of c.step.new.workspace) _
+    let moves = moves_then _ (claims_of c.claim_step.new.workspace) _
     (moves_on c.in-Some.next inv.left.claim.ready.ready.made c.args.geometry.now.sound.sizes.frag_high
     (rw (inv.geometry, c.in-Some.is) at c.in_ok-next.ensures.step.fits).length now inv.left.claim_bound) words.means.bound in
     let image = c.in_ok-next.ensures.leaves.read ∙ inv.device in
@@ -256,7 +257,7 @@ loop-next-preserved g c =
       open_still = words.uncut;
       geometry = words.same.geometry ∙ walk;
       held = words.counted.held _ (rw (words.only.windows, left.only.windows) reads.held);
-      counted = omega (arith, paid, inv.counted, c.step.ensures.claims.counted, words.rises, words.counted.unread);
+      counted = omega (arith, paid, inv.counted, c.claim_step.ensures.claims.counted, words.rises, words.counted.unread);
       indirect = λ bytes t. omega (
         arith,
         paid,
@@ -267,7 +268,7 @@ loop-next-preserved g c =
       );
       claims = claims_on v s c.loop-next.sweep.walk c.next.new.self _ c.in-Some.next next now inv.claims
           (λ bytes t. sym (words.means.claims contents claimed.windows.blocks bytes (gives ∙ t)));
-      said = steps_said v n s (claims_of c.step.new.workspace) c.loop-next.sweep.walk c.next.new.self _ c.in-Some.next
+      said = steps_said v n s (claims_of c.claim_step.new.workspace) c.loop-next.sweep.walk c.next.new.self _ c.in-Some.next
           inv.said next now (λ bytes t. sym (words.means.lines contents claimed.windows.blocks bytes (gives ∙ t) n))
           c.in_ok-seen.ensures.claims.said;
     }
@@ -277,7 +278,7 @@ returns-then-not-seen g c =
     let inv = c.loop-next.invariant in
     let v = c.args.geometry.now.layout in
     let s = claims_of c.loop-next.workspace in
-    let s' = claims_of c.step.new.workspace in
+    let s' = claims_of c.claim_step.new.workspace in
     let n = c.args.claimant.now.number in
     let read = claiming_walked c.in_ok-next.ensures.leaves.read inv.geometry c.next.ensures.leaves.kept inv.left in
     let now = c.in_ok-seen.ensures.claims in
@@ -292,13 +293,13 @@ returns-then-not-seen g c =
       claims = claims_on v s c.loop-next.sweep.walk c.next.new.self (λ bytes. s') c.in-Some.next next now.claims
           inv.claims (λ bytes t. (cut_over v n s' (steps_left bytes c.next.new.self) cut).0);
       image = c.in_ok-next.ensures.leaves.read ∙ inv.device;
-      left = claiming_on c.step.ensures.left
-          (omega (arith, c.step.ensures.claims.runs, step_most v s c.in-Some.next))
+      left = claiming_on c.claim_step.ensures.left
+          (omega (arith, c.claim_step.ensures.claims.runs, step_most v s c.in-Some.next))
           (moves_on c.in-Some.next inv.left.claim.ready.ready.made c.args.geometry.now.sound.sizes.frag_high
           (rw (inv.geometry, c.in-Some.is) at c.in_ok-next.ensures.step.fits).length now.claims inv.left.claim_bound)
           read;
       walk = c.in_ok-next.ensures.same.geometry ∙ inv.geometry;
-      counted = omega (arith, paid, inv.counted, c.step.ensures.claims.counted);
+      counted = omega (arith, paid, inv.counted, c.claim_step.ensures.claims.counted);
       known = λ bytes t. omega (
         arith,
         paid,
@@ -307,7 +308,7 @@ returns-then-not-seen g c =
       );
       most = λ bytes t. omega (
         arith,
-        c.step.ensures.claims.runs,
+        c.claim_step.ensures.claims.runs,
         steps_rise v (after_step v s c.in-Some.next) (steps_left bytes c.next.new.self),
         ap (λ xs. (after_steps v s xs).runs) (next bytes t),
         ap (λ s. s.runs) (inv.claims bytes t),

@@ -1,11 +1,12 @@
 use Rattle.std.proofs.Common.{◌≡◌, ◌+◌, ◌≤◌, true}
 use Rattle.ffs_volume.specs.Blocks.{Claims.after_steps, Claims.lines_of_steps, Claims.is_open, Steps.steps_of}
 use Rattle.ffs_volume.specs.Report.VolumeReads.{indirect_in_steps}
-use Rattle.ffs_report.specs.{Known.ForBytes, Known.IsContents, PhaseOutcome.SaidOf, Progress.progress}
+use Rattle.ffs_report.specs.{PhaseOutcome.SaidOf, Progress.progress}
+use Rattle.ffs_image.specs.Known.{ForBytes, IsContents}
 use Rattle.ffs_walk.specs.{Counts.AreHeld, Counts.unread, Rests.steps_left, Rests.most_steps_left}
 use Rattle.ffs_workspace.specs.Holds.{claims_of}
 use Rattle.ffs_claims.{proofs.Inodes.Claiming, specs.Lines.of_lines}
-use Rattle.ffs_claims.proofs.claim.claim.Given as goal
+use Rattle.ffs_claims.proofs.claim.claim_steps.Given as goal
 
 abbrev pub invariant-loop-next : goal.invariant-loop-next
 invariant-loop-next g l = let v = l.geometry.layout in let n = l.claimant.number in let i = l.claimant.inode.now in

@@ -16,8 +16,8 @@ with_run_counts w counts = record w { runs_seen = counts.runs_seen; kept = count
 
 -- what the next addresses of a walk offer can be claimed: the inode's next step can be seen, with the bound of
 -- `CanSeeStep`
-abbrev pub CanClaimWords : Workspace → DataArea → Walk → Type 0
-CanClaimWords w area walk = CanSeeNext walk.geometry.layout w area (2 ^ 62)
+abbrev pub CanClaimAddresses : Workspace → DataArea → Walk → Type 0
+CanClaimAddresses w area walk = CanSeeNext walk.geometry.layout w area (2 ^ 62)
 
 -- a step claims what it offers, and nothing is reported of it
 pub record ClaimsSilently (v : Layout) (step : Step) (old new : Workspace) : Type 0 where
@@ -25,7 +25,7 @@ pub record ClaimsSilently (v : Layout) (step : Step) (old new : Workspace) : Typ
   pub silent : (number : ℕ) → step_lines v number (claims_of old) step ≡ []
 
 -- what an address offers can be claimed: in a volume of some layout, the inode's next step can be seen. The bound is
--- above that of `CanClaimWords`, since addresses before this one have been counted
+-- above that of `CanClaimAddresses`, since addresses before this one have been counted
 pub record CanClaimAddress (w : Workspace) (area : DataArea) : Type 0 where
   pub layout : Layout
   pub next : CanSeeNext layout w area (2 ^ 63)
@@ -52,7 +52,7 @@ pub record MeansSame (v : Layout) (blocks : Blocks) (old new : Claims) (walk wal
   pub bound : ClaimBound old new
 
 -- a walk passes over steps that claim what they offer: what it has left means the same as before
-pub record ClaimsWords (v : Layout) (old new : Workspace) (walk walk' : Walk) : Type 0 where
+pub record ClaimsAddresses (v : Layout) (old new : Workspace) (walk walk' : Walk) : Type 0 where
   pub means : MeansSame v old.windows.blocks (claims_of old) (claims_of new) walk walk'
   pub uncut : is_open (claims_of new) ≡ true
   pub only : ClaimsOnly v old new
