@@ -2,4 +2,4 @@
 
 /// The version, and the first digits of the digest of the sources that the program was built from.
 /// `tools/renew_dist` writes this line.
-pub const VERSION: &str = "1.25.0 (sources b203f6779755)";
+pub const VERSION: &str = "1.26.0 (sources 67131998b79a)";

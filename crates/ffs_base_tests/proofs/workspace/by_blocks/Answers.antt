@@ -5,7 +5,7 @@ use Rattle.ffs_base_tests.proofs.workspace.by_blocks.Goals as goal
 pub inode-requires-2 : goal.inode-requires-2
 inode-requires-2 g c =
     let v = c.args.geometry.now.layout in
-    let read = sym c.in_ok-root.ensures.reads.read in
+    let read = sym c.in_ok-root.ensures.inode.reads.read in
     record {
       number = omega (arith, c.requires.inodes);
       ready = record {

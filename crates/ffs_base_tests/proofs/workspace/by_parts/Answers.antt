@@ -5,7 +5,7 @@ use Rattle.ffs_base_tests.proofs.workspace.by_parts.Goals as goal
 pub inode_by_part-requires-2 : goal.inode_by_part-requires-2
 inode_by_part-requires-2 g c =
     let v = c.args.geometry.now.layout in
-    let read = sym c.in_ok-far.ensures.reads.read in
+    let read = sym c.in_ok-far.ensures.inode.reads.read in
     record {
       number = omega (arith, c.requires.inodes);
       ready = record {
@@ -18,7 +18,7 @@ inode_by_part-requires-2 g c =
 pub inode_by_part-requires-3 : goal.inode_by_part-requires-3
 inode_by_part-requires-3 g c =
     let v = c.args.geometry.now.layout in
-    let read = sym (c.in_ok-next.ensures.reads.read ∙ c.in_ok-far.ensures.reads.read) in
+    let read = sym (c.in_ok-next.ensures.inode.reads.read ∙ c.in_ok-far.ensures.inode.reads.read) in
     record {
       number = omega (arith, c.requires.inodes);
       ready = record {
