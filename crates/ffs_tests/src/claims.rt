@@ -266,12 +266,13 @@ fn rescanned_twice(
 {
     let mut image = image_with(&SHARED_TWICE, alloc)?;
     let mut workspace = Workspace::new(alloc, geometry)?;
-    let mut dropped = Counted::new(Vec::new(alloc));
+    let mut before = Vec::new(alloc);
+    let mut out = Counted::new(&mut before);
     phase1(
         geometry,
         &mut image,
         &mut workspace,
-        &mut Report::new(&mut dropped),
+        &mut Report::new(&mut out),
     )?;
     let mut first = FuseWriter::new(Vec::new(alloc), bytes);
     let mut out = Counted::new(&mut first);
