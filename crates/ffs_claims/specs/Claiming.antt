@@ -20,8 +20,8 @@ use Rattle.ffs_claims.specs.Leaves.{CanOffer, ClaimsAndFinds, ClaimsOnly, HasBeg
 use Rattle.ffs_claims.specs.{Lines.of_lines, Moments.{ClaimMoment, PhaseMoment}, declared.area.DataArea.DataArea}
 use Rattle.ffs_claims.specs.declared.{area.Run.Run, claim.Sweep.Sweep}
 
--- the reserved fragments are set in the map `used`: where the workspace was as it was made, they alone are used then. No Run
--- is counted yet, and all else is as claiming leaves it (`ClaimsOnly`)
+-- the reserved fragments are set in the map `used`: where the workspace was as it was made, they alone are
+-- used then. No Run is counted yet, and all else is as claiming leaves it (`ClaimsOnly`)
 pub record Reserves (v : Layout) (old new : Workspace) : Type 0 where
   pub claims : IsFresh v old → claims_of new ≡ no_claims v
   pub runs : new.runs_seen ≡ 0
@@ -77,7 +77,7 @@ pub record ClaimsInArea (v : Layout) (old new : Workspace) (area : DataArea) : T
   pub only : ClaimsOnly v old new
   pub all_in_range : IsDataArea v area
 
--- between two workspaces no more Runs are seen than fragments were unused at first, and those that claim none:
+-- between two workspaces no more Runs are seen than fragments were unused at first, and `runs_without_claim`:
 -- each Run that an inode sees claims a fragment, but for its bad Runs and its dup offers
 abbrev pub FewRuns : Layout → (old new : Workspace) → Type 0
 FewRuns v old new = new.runs_seen + used_bits (claims_of old) ≤ old.runs_seen + v.size + runs_without_claim
@@ -111,7 +111,8 @@ pub record ReadsByBlock {T : Type 0} (v : Layout) (number : ℕ) (old new : Phas
 
 -- what an inode leaves: the image, but for a read that failed, what its steps leave but for `claim_bound`, `found`
 -- and `table`, a walk over the volume, and all that inodes which claim don't change (`ClaimsAndFinds`).
--- Each Run that it sees claims a fragment, but for those that claim none, and each read is paid by a Run that is seen
+-- Of the Runs that it sees at most `runs_without_claim` claim no fragment, and each read is paid by a Run that is
+-- seen
 pub record InodeLeaves {T : Type 0} (g : Geometry) (old new : PhaseMoment) (sweep : Sweep) (result : Result T RunFault)
     : Type 0 where
   pub image : ImageAfter old.image new.image result
