@@ -14,10 +14,13 @@ use ffs_volume::Role;
 use std::alloc::{AllocError, Global};
 use std::test::Fail;
 
-/// Four entries for each of eight inodes. It reports nothing of an image.
+/// How many entries each inode has here.
+const ENTRIES_EACH: usize = 5;
+
+/// Five entries for each of eight inodes. It reports nothing of an image.
 #[derive(Drop)]
 struct Listed {
-    entries: &'static [[EntryHead; 4]; 8],
+    entries: &'static [[EntryHead; ENTRIES_EACH]; 8],
     dir: usize,
     place: usize,
 }
@@ -41,7 +44,7 @@ impl Directories for Listed {
 
     ghost rest = { λ _ _. [] };
 
-    ghost left = { λ listed. 4 - listed.place };
+    ghost left = { λ listed. 5 - listed.place };
 
     ghost name = { λ _. [] };
 
@@ -64,12 +67,23 @@ impl Directories for Listed {
     }
 
     fn next(&mut self) -> Result<Option<EntryHead>, ImageFault> {
-        if self.dir >= self.entries.len() || self.place >= 4 {
+        if self.dir >= self.entries.len() || self.place >= ENTRIES_EACH {
             return Ok(None);
         }
         let entry = self.entries[self.dir][self.place];
         self.place += 1;
         Ok(Some(entry))
+    }
+
+    fn skip_empty(&mut self) -> u32 {
+        if self.dir >= self.entries.len() || self.place >= ENTRIES_EACH {
+            return 0;
+        }
+        if !matches!(self.entries[self.dir][self.place].role, Role::Empty) {
+            return 0;
+        }
+        self.place += 1;
+        1
     }
 
     fn has_right_shape(&mut self) -> Result<bool, ImageFault> {
@@ -88,34 +102,38 @@ macro_rules! entry {
     };
 }
 
-const NONE: [EntryHead; 4] = [entry!(Role::Empty, 0); 4];
+const NONE: [EntryHead; ENTRIES_EACH] = [entry!(Role::Empty, 0); ENTRIES_EACH];
 
-static ENTRIES: [[EntryHead; 4]; 8] = [
+static ENTRIES: [[EntryHead; ENTRIES_EACH]; 8] = [
     NONE,
     NONE,
     [
         entry!(Role::Dot, 2),
         entry!(Role::Dotdot, 2),
-        entry!(Role::Plain, 3),
         entry!(Role::Empty, 0),
+        entry!(Role::Empty, 0),
+        entry!(Role::Plain, 3),
     ],
     [
         entry!(Role::Dot, 3),
         entry!(Role::Dotdot, 2),
         entry!(Role::Plain, 4),
         entry!(Role::Extra, 2),
+        entry!(Role::Empty, 0),
     ],
     NONE,
     [
         entry!(Role::Dot, 5),
         entry!(Role::Dotdot, 6),
-        entry!(Role::Plain, 6),
         entry!(Role::Empty, 0),
+        entry!(Role::Empty, 0),
+        entry!(Role::Plain, 6),
     ],
     [
         entry!(Role::Dot, 6),
         entry!(Role::Dotdot, 5),
         entry!(Role::Plain, 5),
+        entry!(Role::Empty, 0),
         entry!(Role::Empty, 0),
     ],
     NONE,

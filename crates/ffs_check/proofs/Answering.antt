@@ -6,7 +6,7 @@ use Rattle.ffs_report.specs.{Progress.Progress, declared.fault.RunFault.{RunFaul
 use Rattle.ffs_pathnames.specs.declared.pass2.Root.{Root}
 use Rattle.ffs_workspace.specs.{declared.workspace.Workspace.Workspace, Leaves.LeavesBlockCheck}
 use Rattle.ffs_image.specs.Known.{ForBytes}
-use Rattle.ffs_check.specs.{PhaseEnds.{EndsAs, AnswersAfterPhases, can_end_report}, Phases.AnswersDups}
+use Rattle.ffs_check.specs.{PhaseEnds.{MakesEnd, AnswersAfterPhases, can_end_report}, Phases.AnswersDups}
 
 -- where a phase failed nothing is said of them but the bound, and what `has_dups` may answer
 pub unanswered : {knows : List ℕ → Type 0} {v : Layout} {w w' : Workspace} →
@@ -34,7 +34,7 @@ not_whole end fault is none whole = cc (ap can_end_report is)
 
 -- an end is that of a whole report only where the phases answered Ok
 pub answers_end : {knows : List ℕ → Type 0} {v : Layout} {w w' : Workspace} (had_defect : Bool) (b c : Progress)
-    (r : Result Root RunFault) (end : End) → EndsAs had_defect b c r end → AnswersAfterPhases (is_ok r) knows v w w' →
+    (r : Result Root RunFault) (end : End) → MakesEnd had_defect b c r end → AnswersAfterPhases (is_ok r) knows v w w' →
     AnswersAfterPhases (can_end_report end) knows v w w'
 answers_end had_defect b c (Ok root) end e answers =
     record { known = λ whole. answers.known refl; dups = answers.dups; most = answers.most }

@@ -9,7 +9,7 @@ use Rattle.ffs_report.specs.declared.fault.RunFault.{RunFault, TheVariants.{Read
 use Rattle.ffs_report.proofs.{Reports.said_then, Sinks.took_nil}
 use Rattle.ffs_pathnames.specs.declared.pass2.Root.{Root}
 use Rattle.ffs_check.specs.{Moment.{Moment, ReportMoment, at_output}, Reads.ReadsByMessages}
-use Rattle.ffs_check.{specs.PhaseEnds.{EndsAs, SaysNoMemory}, proofs.EndLaws.{broke_off, took_messages}}
+use Rattle.ffs_check.{specs.PhaseEnds.{MakesEnd, SaysNoMemory}, proofs.EndLaws.{broke_off, took_messages}}
 
 -- the price of each message, beside what the phases read for none
 priced : (v : Layout) (n m before after : ℕ) → after ≤ before + phase_reads v 0 + (line_reads + 1) * n → n ≤ m →
@@ -19,7 +19,7 @@ priced v n m before after most few = grind (arith, mul-le-mul_left)
 -- the phases have ended, and a read that failed is said
 pub ended_reads : (v : Layout) (had_defect : Bool) (old new : ReportMoment) (b : Progress) (r : Result Root RunFault)
     (end : End) → old.report.failed ≡ false →
-    Paid (line_reads + 1) old.report b (old.reads + phase_reads v 0) new.reads r → EndsAs had_defect b new.report r end →
+    Paid (line_reads + 1) old.report b (old.reads + phase_reads v 0) new.reads r → MakesEnd had_defect b new.report r end →
     ReadsByMessages (phase_reads v) (at_output old) (at_output new)
 ended_reads v had_defect old new b (Ok root) end working p e = record {
   said = p.messages;

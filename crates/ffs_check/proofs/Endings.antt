@@ -14,7 +14,7 @@ use Rattle.ffs_report.{specs.Sink.Took, proofs.Reports.has_defect-append}
 use Rattle.ffs_report.specs.declared.fault.RunFault.{RunFault, TheVariants.{Read, Out}}
 use Rattle.ffs_pathnames.specs.{declared.pass2.Root.Root, RootAnswers.is_go}
 use Rattle.ffs_check.specs.{Moment.{Moment, ReportMoment, at_output}, Opening.IsWorkingAfter}
-use Rattle.ffs_check.specs.PhaseEnds.{EndsAs, PhasesEnd, PhasesReport, SaysReadFault}
+use Rattle.ffs_check.specs.PhaseEnds.{MakesEnd, PhasesEnd, PhasesReport, SaysReadFault}
 use Rattle.ffs_check.proofs.EndLaws.{broke_more, broke_off, ends_known, line_after}
 
 -- what an image's bytes determine, and nothing for an image that doesn't give them
@@ -47,7 +47,7 @@ module _ (had_defect : Bool) (knows : List ℕ → Type 0) (s : Superblock) (old
   whole : (root : Root) → PhasesReport knows (λ bytes. phase_lines bytes s) old.report b (Ok root) →
       new.image ≡ old.image →
       ForBytes knows (λ bytes. is_go root ≡ continues_after_root (volume_of s.layout bytes)) →
-      EndsAs had_defect b new.report (Ok root) end → PhasesEnd knows s (at_output old) (at_output new) end
+      MakesEnd had_defect b new.report (Ok root) end → PhasesEnd knows s (at_output old) (at_output new) end
   whole root p none_failed by_root e = record {
     text = p.said.messages;
     right = λ bytes k. sym (append-nil p.said.messages) ∙ p.said.right bytes k;
@@ -112,7 +112,7 @@ module _ (had_defect : Bool) (knows : List ℕ → Type 0) (s : Superblock) (old
   pub ran : (r : Result Root RunFault) → PhasesReport knows (λ bytes. phase_lines bytes s) old.report b r →
       ImageAfter old.image new.image r →
       IfOk r (λ root. ForBytes knows (λ bytes. is_go root ≡ continues_after_root (volume_of s.layout bytes))) →
-      EndsAs had_defect b new.report r end → PhasesEnd knows s (at_output old) (at_output new) end
+      MakesEnd had_defect b new.report r end → PhasesEnd knows s (at_output old) (at_output new) end
   ran (Ok root) p none_failed by_root e = whole root p none_failed by_root e
   ran (Err (Read fault)) p f by_root e =
       cut fault.sector p.prefix.messages p.rest p.prefix.right p.more p.prefix.said f e
@@ -120,7 +120,7 @@ module _ (had_defect : Bool) (knows : List ℕ → Type 0) (s : Superblock) (old
 
 -- the report has its output still
 pub same_output : (knows : List ℕ → Type 0) (all : List ℕ → List Message) (had_defect : Bool) (a b c : Progress)
-    (r : Result Root RunFault) (end : End) → PhasesReport knows all a b r → EndsAs had_defect b c r end →
+    (r : Result Root RunFault) (end : End) → PhasesReport knows all a b r → MakesEnd had_defect b c r end →
     c.output ≡ a.output
 same_output knows all had_defect a b c (Ok root) end p e = ap (λ (x : Progress). x.output) e.0 ∙ p.said.said.output
 same_output knows all had_defect a b c (Err (Read fault)) end p e = elim e [

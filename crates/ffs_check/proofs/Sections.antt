@@ -11,7 +11,7 @@ use Rattle.ffs_report.proofs.Reports.{said_none, said_then, stopped_after}
 use Rattle.ffs_pathnames.specs.declared.pass2.Root.{Root, TheVariants.{Go, Stop}}
 use Rattle.ffs_volume.specs.Report.Headings.{HasSections, all_headings, headings_before}
 use Rattle.ffs_check.specs.Headings.{TookSections}
-use Rattle.ffs_check.{specs.PhaseEnds.{EndsAs, SaysSections}, proofs.EndLaws.took_messages}
+use Rattle.ffs_check.{specs.PhaseEnds.{MakesEnd, SaysSections}, proofs.EndLaws.took_messages}
 
 -- ---- a text and its sections
 -- a further section
@@ -166,7 +166,7 @@ all_before false = refl
 
 module _ (had_defect : Bool) (a b c : Progress) (end : End) where
   -- how the phases end
-  pub sections_end : (r : Result Root RunFault) → SaysSections a b r → EndsAs had_defect b c r end →
+  pub sections_end : (r : Result Root RunFault) → SaysSections a b r → MakesEnd had_defect b c r end →
       HeadingsWentOut a.sink c.sink end
   sections_end (Ok Go) p e =
       subst (λ (x : Option (List Message)). IfSome x (TookSections [] a.sink c.sink))

@@ -6,8 +6,8 @@
 --   check_opening                   Opens (`Opening`)
 --   check_rest                      RunsToEnd (`PhaseEnds`)
 --   run_phases                      HaveRun, SaysSections and PhasesLeave (`PhaseEnds`), PhasesPay (`Reads`)
---   run_program_over, run_over      RunEnds (`Run`)
---   run_program, run                RunEndsFlushed (`Run`), which has a RunEnds in it
+--   run_program_over, run_over      RunsProgram (`Run`)
+--   run_program, run                RunsProgramFlushed (`Run`), which has a RunsProgram in it
 --   parse_args                      AskFor or AreRefusedBy (`CommandWords`)
 --
 -- Many names have "end" in them. `End` of the book is the value that a check returns. Who leads to whom:
@@ -19,9 +19,9 @@
 --   PhasesEnd      (in the file `PhaseEnds`) Ends of the text after the opening, with IsEndByRoot and IsCutByRead
 --   RunsToEnd      PhasesEnd, and what the phases read and leave
 --   OpeningEnds    of the opening alone, in words of its own; in OpeningOf, and so in Opens
---   EndsAs         which end the answer of `run_phases` makes, and the line that is said then: LineEnds, by
---                  SaysReadFault. HaveRun and EndsAs together lead to PhasesEnd
---   RunEnds        of a run of a program, and not of a check: for `fsck_ffs` it has an IsChecked (`Fsck`), and so a
+--   MakesEnd       which end the answer of `run_phases` makes, and the line that is said then: LineEnds, by
+--                  SaysReadFault. HaveRun and MakesEnd together lead to PhasesEnd
+--   RunsProgram    of a run of a program, and not of a check: for `fsck_ffs` it has an IsChecked (`Fsck`), and so a
 --                  Headline
 --
 -- The check: `Moment`, `Ends`, `Headings` and `Headline` are the first clause. `Failures` says how many reads and

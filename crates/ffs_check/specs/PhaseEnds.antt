@@ -101,10 +101,10 @@ SaysNoMemory old new end = LineEnds old new cannot_alloc NoMemory end
 
 -- the end that an answer of the phases makes, by the defects of this report, and by whether an
 -- opening that another report said had one (`had_defect`); a failed read is said
-abbrev pub EndsAs : Bool → (old new : Progress) → Result Root RunFault → End → Type 0
-EndsAs had_defect old new (Ok root) end = (new ≡ old) × (end ≡ end_by (is_go root) (had_defect || old.defect))
-EndsAs had_defect old new (Err (Read fault)) end = SaysReadFault old new fault.sector end
-EndsAs had_defect old new (Err (Out fault)) end = (new ≡ old) × (end ≡ WriteFault)
+abbrev pub MakesEnd : Bool → (old new : Progress) → Result Root RunFault → End → Type 0
+MakesEnd had_defect old new (Ok root) end = (new ≡ old) × (end ≡ end_by (is_go root) (had_defect || old.defect))
+MakesEnd had_defect old new (Err (Read fault)) end = SaysReadFault old new fault.sector end
+MakesEnd had_defect old new (Err (Out fault)) end = (new ≡ old) × (end ≡ WriteFault)
 
 -- the end is by whether the check continued after the root, as the last message says, and by whether a defect
 -- was reported

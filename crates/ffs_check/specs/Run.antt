@@ -97,9 +97,9 @@ pub record HadNoMemory {R O : Type 0} (program : Meaning R) (words : List (List 
 
 -- how a run of a program ends: as asked, or without memory, and then nothing goes to standard error; or
 -- refused, and the text for that goes there
-abbrev pub RunEnds : {R O E : Type 0} → Meaning R → Images O → outlet.Ghosts E → List (List ℕ) →
+abbrev pub RunsProgram : {R O E : Type 0} → Meaning R → Images O → outlet.Ghosts E → List (List ℕ) →
     (old new : RunMoment O) → (errors errors' : E) → ℕ → Type 0
-RunEnds program images outlet words old new errors errors' status =
+RunsProgram program images outlet words old new errors errors' status =
     ((errors' ≡ errors)
     × (RunsAsAsked program images words old new status ⊎ HadNoMemory program words old new status))
     ⊎ IsRefused program (IsWritten outlet.contents outlet.was_written errors errors') words old new status
@@ -129,7 +129,7 @@ FlushedAfter was_flushed contents old new ran_status status =
 -- how a run ends whose writer is flushed after it: `out` and `out'` are the writer as an output, before the
 -- run and after it, `ends` says how the run ends, and `between` is the writer before the flush. The output
 -- failed only where a write did
-pub record RunEndsFlushed {S : Type 0} (outlet : outlet.Ghosts S) (ends : Sink → Sink → ℕ → Type 0) (old new : S)
+pub record RunsProgramFlushed {S : Type 0} (outlet : outlet.Ghosts S) (ends : Sink → Sink → ℕ → Type 0) (old new : S)
     (status : ℕ) : Type 0 where
   pub out : Sink
   pub out' : Sink

@@ -1,5 +1,6 @@
 -- What inodes ask for before they claim, and what they leave.
-use Rattle.std.specs.{List.range_with_len, Prelude.{◌≡◌, ℕ, ◌+◌, ◌<◌, ◌≤◌, ◌^◌, Bool, true, List, Result, OnOk, IfOk}}
+use Rattle.std.specs.{List.range_with_len, Prelude.{◌≡◌, ℕ, ◌+◌, ◌<◌, ◌≤◌, ◌^◌, Bool, true, false, List}}
+use Rattle.std.specs.Prelude.{Result, OnOk, IfOk}
 use Rattle.ffs_volume.specs.Blocks.{BlockCheck.owner_lines, Inodes.{class_of, inodes_of}, Owners.{Owner, owner_of}}
 use Rattle.ffs_volume.specs.Blocks.Claims.{Claims, after_offer, after_offers, after_owner, after_step, after_steps}
 use Rattle.ffs_volume.specs.Blocks.Claims.{at_next_inode, is_open, lines_of_offers, lines_of_steps, no_claims}
@@ -12,6 +13,7 @@ use Rattle.ffs_report.specs.{PhaseOutcome.{ImageAfter, PhaseReports}, Progress.S
 use Rattle.ffs_image.specs.Known.{ForBytes, IsContents}
 use Rattle.ffs_report.specs.declared.fault.RunFault.{RunFault}
 use Rattle.ffs_layout.specs.declared.geometry.Geometry.{Geometry}
+use Rattle.ffs_maps.specs.{Bits.bits_of, Reserved.with_reserved}
 use Rattle.ffs_walk.specs.Counts.{entered}
 use Rattle.ffs_workspace.specs.{Holds.{IsFresh, claims_of}, Lengths.IsFor, Ready.CanRead, Tables.HoldsInode}
 use Rattle.ffs_workspace.specs.{Tables.HoldsPiece, declared.workspace.Workspace.Workspace}
@@ -21,10 +23,13 @@ use Rattle.ffs_claims.specs.{Lines.of_lines, Moments.{ClaimMoment, PhaseMoment},
 use Rattle.ffs_claims.specs.declared.{area.Run.Run, claim.Sweep.Sweep}
 
 -- the reserved fragments are set in the map `used`: where the workspace was as it was made, they alone are
--- used then. No Run is counted yet, and all else is as claiming leaves it (`ClaimsOnly`)
+-- used then. The counts of the current inode and that of Runs are 0, and nothing else changes
 pub record Reserves (v : Layout) (old new : Workspace) : Type 0 where
+  pub used : bits_of new.used ≡ with_reserved v (bits_of old.used)
   pub claims : IsFresh v old → claims_of new ≡ no_claims v
   pub runs : new.runs_seen ≡ 0
+  pub counts : new
+      ≡ record old { used = new.used; bad = 0; dup_offers = 0; kept = 0; tail = false; runs_seen = 0 }
   pub only : ClaimsOnly v old new
 
 -- an inode can claim fragments: the windows hold what the image gives, and each Run that lies in the data area

@@ -7,7 +7,7 @@ use Rattle.ffs_image.specs.Known.{ForBytes, IsContents}
 use Rattle.ffs_report.specs.declared.fault.RunFault.TheVariants.{Read, Out}
 use Rattle.ffs_workspace.specs.{declared.workspace.Workspace.Workspace, Holds.HoldsPhase1}
 use Rattle.ffs_finding.specs.declared.find.FindFault.{FindFault, TheVariants.{Refused, Failed, NoMemory}}
-use Rattle.ffs_finding.specs.{declared.request.Target.Target, Claims.{HoldsOwners, TakesClaims, WithOwners}, Fields.WithSuper, Outcome.PrintedTo}
+use Rattle.ffs_finding.specs.{declared.request.Target.Target, Claims.{HoldsBlocks, TakesClaims, WithBlocks}, Fields.WithSuper, Outcome.PrintedTo}
 use Rattle.ffs_finding.specs.{Outcome.{any_line}, Whole.{PrintedAll, TargetAnswers}}
 use Rattle.ffs_finding.{specs.Whole.{finds_defects, target_lines}, proofs.Printing.{reads_first}}
 use Rattle.ffs_check.specs.Moment.{Moment}
@@ -25,12 +25,12 @@ module _ (target : Target) (sector : Option ℕ) (s : Superblock) (m : Moment) w
   module _ (m' : Moment) (w : Workspace)
       (holds : ForBytes (IsContents m.image.contents) (λ b. HoldsPhase1 s.layout b w)) where
     -- what phase 1 leaves says what belongs to whom
-    owners_in : (b : List ℕ) → HoldsPhase1 s.layout b w → HoldsOwners s.layout b w
+    owners_in : (b : List ℕ) → HoldsPhase1 s.layout b w → HoldsBlocks s.layout b w
     owners_in b h = record { used = h.used; kinds = h.kinds; notes = h.notes }
 
     -- all lines were printed
     pub all_answer : (defect : Bool) →
-        (p : PrintedTo (WithOwners s.layout m.image w) (λ b. []) (λ b. target_lines target sector b s) m.out m'.out) →
+        (p : PrintedTo (WithBlocks s.layout m.image w) (λ b. []) (λ b. target_lines target sector b s) m.out m'.out) →
         defect ≡ (finds_defects target && any_line p.lines) → PrintedAll (finds_defects target)
         (WithSuper m.image sector s) (λ b. target_lines target sector b s) m.out m'.out defect
     all_answer defect p is = record {

@@ -7,7 +7,7 @@ use Rattle.ffs_report.specs.Sink.{Sink}
 use Rattle.ffs_image.specs.Known.{ForBytes, IsContents}
 use Rattle.ffs_report.specs.declared.fault.RunFault.{RunFault, TheVariants.{Read, Out}}
 use Rattle.ffs_workspace.specs.Ready.{KeepsWindows}
-use Rattle.ffs_finding.specs.Claims.{WithOwners}
+use Rattle.ffs_finding.specs.Claims.{WithBlocks}
 use Rattle.ffs_volume.specs.{Blocks.Inodes.inodes_of, Encodings.Notes.{note_at}}
 use Rattle.ffs_workspace.specs.declared.workspace.{Workspace.Workspace}
 use Rattle.ffs_check.specs.Moment.{Moment}
@@ -27,20 +27,20 @@ same_lines knows all all' a b (Err (Out fault)) e p = grind arith
 pub found_lines : {T : Type 0} {v : Layout} {f x : ℕ} {m m' : Moment} {d0 on : Device} {w w0 : Workspace}
     {r : Result T RunFault} → m.image ≡ d0 → KeepsWindows v on w0 w → IsAcceptedLayout v → 2 ≤ x →
     x < inodes_of v → FindsKeeper v (sought_in f x w) m m' r →
-    PrintsLines (WithOwners v d0 w0) (λ b. keeper_lines_of_inode v b f x) m.out m'.out r
+    PrintsLines (WithBlocks v d0 w0) (λ b. keeper_lines_of_inode v b f x) m.out m'.out r
 found_lines {v = v} {f = f} {x = x} {m = m} {m' = m'} {d0 = d0} {w = w} {w0 = w0} {r = r} e stays g low high p =
-    let note : ForBytes (WithOwners v d0 w0) (λ b. slice_index w.notes.items x ≡ note_at v b x) = λ b k.
+    let note : ForBytes (WithBlocks v d0 w0) (λ b. slice_index w.notes.items x ≡ note_at v b x) = λ b k.
     ap (λ (z : Workspace). slice_index z.notes.items x) stays.held ∙ k.1.notes x in
-    same_lines (WithOwners v d0 w0) _ _ m.out m'.out r
+    same_lines (WithBlocks v d0 w0) _ _ m.out m'.out r
     (λ b k. listed_inode v b f x (slice_index w.notes.items x) g low high (note b k))
-    (knowing _ (IsContents m.image.contents) (WithOwners v d0 w0) _ m.out m'.out r
+    (knowing _ (IsContents m.image.contents) (WithBlocks v d0 w0) _ m.out m'.out r
     (λ b k. ap (λ (z : Device). z.contents) e ∙ k.0) p.found.text)
 
 -- and its reads
 pub found_reads : {T : Type 0} {v : Layout} {f x : ℕ} {m m' : Moment} {d0 on : Device} {w w0 : Workspace}
     {r : Result T RunFault} → m.image ≡ d0 → KeepsWindows v on w0 w → IsAcceptedLayout v → 2 ≤ x →
     x < inodes_of v → FindsKeeper v (sought_in f x w) m m' r →
-    ForBytes (WithOwners v d0 w0) (λ b. m'.reads + (claims_before v b x).runs
+    ForBytes (WithBlocks v d0 w0) (λ b. m'.reads + (claims_before v b x).runs
     ≤ m.reads + 1 + (claims_before v b (x + 1)).runs)
 found_reads {v = v} {x = x} {w = w} e stays g low high p = λ b k.
     let note = ap (λ (z : Workspace). slice_index z.notes.items x) stays.held ∙ k.1.notes x in

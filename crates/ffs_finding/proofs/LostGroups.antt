@@ -9,7 +9,7 @@ use Rattle.ffs_groups.specs.Free.{free_in}
 use Rattle.ffs_maps.specs.Bits.{bits_of}
 use Rattle.ffs_image.specs.Known.{ForBytes}
 use Rattle.ffs_workspace.specs.declared.workspace.Workspace.{Workspace}
-use Rattle.ffs_finding.specs.Claims.{WithOwners}
+use Rattle.ffs_finding.specs.Claims.{WithBlocks}
 use Rattle.ffs_finding.specs.LostMaps.{is_wrong_by, lines_of_group, lines_of_groups, word_of}
 use Rattle.ffs_finding.{specs.declared.lost.Wrong.{Wrong, TheVariants.{Lost, MarkedFree}}, proofs.Ranges.{next, none}}
 
@@ -72,7 +72,7 @@ module _ (how : Wrong) (v : Layout) (free : ℕ → Bool) where
   groups_end image c past = let none : v.ncg - c ≡ 0 = omega arith in rw none refl
 
 -- the lines of an image are those of lost fragments, and then those of fragments that are marked as free
-pub both : (v : Layout) (d : Device) (w : Workspace) → ForBytes (WithOwners v d w)
+pub both : (v : Layout) (d : Device) (w : Workspace) → ForBytes (WithBlocks v d w)
     (λ b. lost_lines v b ≡ lines_of_groups Lost v (free_in (bits_of w.used) v.size) b
     ++ lines_of_groups MarkedFree v (free_in (bits_of w.used) v.size) b)
 unfolding lost_lines all_claims

@@ -16,14 +16,14 @@ discarding = record { taken = None; failures = 0; holds = None }
 
 -- a workspace holds which fragments are reserved or claimed, and of each inode its kind and what is noted of it. Phase
 -- 1 leaves this, and it is a part of HoldsClaims too: all phases after 1b keep it
-pub record HoldsOwners (v : Layout) (image : List ℕ) (w : Workspace) : Type 0 where
+pub record HoldsBlocks (v : Layout) (image : List ℕ) (w : Workspace) : Type 0 where
   pub used : bits_of w.used ≡ (all_claims v image).used
   pub kinds : (x : ℕ) → slice_index w.kinds.items x ≡ kind_at v image x
   pub notes : (x : ℕ) → slice_index w.notes.items x ≡ note_at v image x
 
 -- the image gives the bytes, and the workspace holds that of them
-abbrev pub WithOwners : Layout → Device → Workspace → List ℕ → Type 0
-WithOwners v d w bytes = IsContents d.contents bytes × HoldsOwners v bytes w
+abbrev pub WithBlocks : Layout → Device → Workspace → List ℕ → Type 0
+WithBlocks v d w bytes = IsContents d.contents bytes × HoldsBlocks v bytes w
 
 -- a workspace that holds what phase 1 leaves was made, a read failed in phase 1, or the memory was refused
 abbrev pub TakesClaims : Layout → (d d' : Device) → (before after : Account) → Result Workspace FindFault → Type 0

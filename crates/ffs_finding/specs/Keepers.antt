@@ -13,7 +13,7 @@ use Rattle.ffs_image.specs.Known.{ForBytes, IsContents}
 use Rattle.ffs_walk.specs.{Keepings.{replay_in, run_taken}, Windows.WindowHolds, declared.keeping.Keeping.Keeping}
 use Rattle.ffs_walk.specs.declared.window.Window.{Window}
 use Rattle.ffs_workspace.specs.{Ready.CanRead, declared.workspace.Workspace.Workspace}
-use Rattle.ffs_finding.specs.Claims.{WithOwners}
+use Rattle.ffs_finding.specs.Claims.{WithBlocks}
 use Rattle.ffs_check.specs.Moment.{Moment}
 use Rattle.ffs_finding.specs.{Outcome.Finds, declared.owner.Sought.Sought}
 
@@ -100,5 +100,5 @@ pub record FindsKeeper {T : Type 0} (v : Layout) (s : Sought) (old new : Moment)
 -- and once for each Run that is seen
 pub record FindsAllKeepers {T : Type 0} (v : Layout) (f : ℕ) (w : Workspace) (old new : Moment)
     (result : Result T RunFault) : Type 0 where
-  pub found : Finds (WithOwners v old.image w) (λ b. keeper_lines v b f) old new result
-  pub reads : ForBytes (WithOwners v old.image w) (λ b. new.reads ≤ old.reads + inodes_of v + run_count v b)
+  pub found : Finds (WithBlocks v old.image w) (λ b. keeper_lines v b f) old new result
+  pub reads : ForBytes (WithBlocks v old.image w) (λ b. new.reads ≤ old.reads + inodes_of v + run_count v b)

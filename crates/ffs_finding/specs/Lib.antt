@@ -2,13 +2,13 @@
 -- command prints of an image's bytes is in the book (`Find` of ffs_volume). Who only wants to know what the program
 -- promises begins with FindsCommand, at the end of `Whole`. The public functions, and what their clauses are:
 --
---   run                    RunEndsFlushed of ffs_check, over `ffs_find` (`Run`), and so IsFoundIn
+--   run                    RunsProgramFlushed of ffs_check, over `ffs_find` (`Run`), and so IsFoundIn
 --   find_in                FindsCommand (`Whole`)
 --   find_copies            Finds (`Outcome`), ReadsCopies (`Copies`)
 --   find_inode             Finds
---   find_owner             Finds, where phase 1 was run (WithOwners of `Claims`); of its parts FindsAllKeepers and
+--   find_owner             Finds, where phase 1 was run (WithBlocks of `Claims`); of its parts FindsAllKeepers and
 --                          FindsKeeper (`Keepers`)
---   find_lost              FindsAny (`Outcome`), where phase 1 was run (WithOwners of `Claims`); of its parts
+--   find_lost              FindsAny (`Outcome`), where phase 1 was run (WithBlocks of `Claims`); of its parts
 --                          FindsWrong (`LostMaps`)
 --   find_wrong_fields      FindsAny, where a superblock is accepted (WithSuper of `Fields`)
 --

@@ -5,7 +5,7 @@ ghost use Rattle.ffs_groups.specs.Free.{free_in};
 ghost use Rattle.ffs_report.specs.Sink.{Prints};
 ghost use Rattle.ffs_workspace.specs.Ready.{IsReady};
 ghost use Rattle.ffs_check.specs.Moment.{moment};
-ghost use Rattle.ffs_finding.specs.{Claims.WithOwners, Outcome.{FindsAny, PrintsWhether}, LostMaps.{CanReadGroups, word_of}};
+ghost use Rattle.ffs_finding.specs.{Claims.WithBlocks, Outcome.{FindsAny, PrintsWhether}, LostMaps.{CanReadGroups, word_of}};
 ghost use Rattle.ffs_finding.specs.LostMaps.{CanSayGroup, FindsWrong, IsBlockWindow, IsGroupMap, IsInMap, IsInMapOrEnd, IsNext};
 ghost use Rattle.ffs_finding.specs.LostMaps.{is_wrong_at, lines_of_group, no_map_lines};
 ghost use Rattle.ffs_volume.specs.Find.Lost.{lost_lines, range_text, stretch_lines};
@@ -202,7 +202,7 @@ pub fn find_lost<I: Image, W: Output>(
     out: &mut W,
 ) -> Result<bool, RunFault>
     requires ready { IsReady geometry.now.layout (I.device image.old) workspace.old }
-    ensures prints { FindsAny (WithOwners geometry.now.layout (I.device image.old) workspace.old)
+    ensures prints { FindsAny (WithBlocks geometry.now.layout (I.device image.old) workspace.old)
         (λ bytes. lost_lines geometry.now.layout bytes) (moment I.Image W.Output image.old out.old)
         (moment I.Image W.Output image.new out.new) result }
     ensures leaves { workspace.new ≡ record workspace.old { windows = workspace.new.windows } }

@@ -11,7 +11,7 @@ ghost use Rattle.ffs_walk.specs.{Keepings.replay_in, Windows.{CanWalk, KeepsBloc
 ghost use Rattle.ffs_workspace.specs.Ready.{CanRead, IsReady, KeepsWindows};
 ghost use Rattle.ffs_check.specs.Moment.{moment};
 ghost use Rattle.ffs_claims.specs.Rescan.{ReplaysStep};
-ghost use Rattle.ffs_finding.specs.{Claims.WithOwners, Outcome.Finds, Keepers.{CanFindKeeper, CanPrintMap, CanPrintStep, CanReadMap}};
+ghost use Rattle.ffs_finding.specs.{Claims.WithBlocks, Outcome.Finds, Keepers.{CanFindKeeper, CanPrintMap, CanPrintStep, CanReadMap}};
 ghost use Rattle.ffs_finding.specs.LostMaps.{IsBlockWindow};
 ghost use Rattle.ffs_finding.specs.Keepers.{FindsKeeper, FindsAllKeepers, WalksKept, is_in_run, map_lines, run_text};
 ghost use Rattle.ffs_finding.specs.Keepers.{sought_in, step_text};
@@ -327,7 +327,7 @@ fn find_keepers<I: Image, W: Output>(
     out: &mut W,
 ) -> Result<(), RunFault>
     requires { CanRead geometry.now.layout (I.device image.old) workspace.old }
-    ensures prints { Finds (WithOwners geometry.now.layout (I.device image.old) workspace.old)
+    ensures prints { Finds (WithBlocks geometry.now.layout (I.device image.old) workspace.old)
         (λ bytes. keeper_lines geometry.now.layout bytes fragment)
         (moment I.Image W.Output image.old out.old) (moment I.Image W.Output image.new out.new)
         result }
@@ -363,7 +363,7 @@ pub fn find_owner<I: Image, W: Output>(
     out: &mut W,
 ) -> Result<(), RunFault>
     requires ready { IsReady geometry.now.layout (I.device image.old) workspace.old }
-    ensures prints { Finds (WithOwners geometry.now.layout (I.device image.old) workspace.old)
+    ensures prints { Finds (WithBlocks geometry.now.layout (I.device image.old) workspace.old)
         (λ bytes. lines_of_fragment geometry.now.layout bytes fragment)
         (moment I.Image W.Output image.old out.old) (moment I.Image W.Output image.new out.new)
         result }

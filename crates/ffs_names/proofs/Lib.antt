@@ -11,6 +11,7 @@
 --
 -- Its entries:
 --   Stepping      the entries of a chunk, one after another
+--   Skipped       empty entries that are passed over, one after another
 --   Entered       how a reading of entries continues
 --   EntryCounts   the reads that are still to come of a reading of entries
 --   Shaped        how the shape of a directory shows itself as its chunks are read
@@ -33,6 +34,7 @@ pub mod Begins
 pub mod Entered
 pub mod Shaped
 pub mod Stepping
+mod Skipped
 pub mod EntryCounts
 pub mod DirLaws
 pub mod DirCosts

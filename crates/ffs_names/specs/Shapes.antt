@@ -8,7 +8,7 @@ use Rattle.ffs_volume.specs.{Directories.PathnameCheck.are_sound, Encodings.Repl
 use Rattle.ffs_volume.specs.{Encodings.ReplayCounts.replayed_runs, Directories.Calm.is_right_size}
 use Rattle.ffs_layout.specs.declared.geometry.Geometry.{Geometry}
 use Rattle.ffs_walk.specs.declared.{blocks.Blocks.Blocks, window.Window.Window}
-use Rattle.ffs_survey.specs.{declared.entry_head.EntryHead.EntryHead, Reading.roled_of}
+use Rattle.ffs_survey.specs.{declared.entry_head.EntryHead.EntryHead, Reading.{roled_of, SkipsEmpty}}
 use Rattle.ffs_names.specs.{Readings.{IsEnded, rest, gap_left, chunks_in, runs_left}}
 use Rattle.ffs_names.specs.Entering.{to_come, last_name, most_to_come}
 use Rattle.ffs_names.specs.{Costs.{reads_for_entries, HoldsEntries}, declared.entries.Entries.Entries}
@@ -107,3 +107,11 @@ pub record IsSameChunk (old new : Entries) : Type 0 where
 pub record TakesFromChunk (old new : Entries) (answer : Option EntryHead) : Type 0 where
   pub taken : MatchOption answer (IsChunkOver old new) (TakesEntry old new)
   pub same : IsSameChunk old new
+
+-- so many empty entries, which came next in the current chunk, were passed over, and all else of the reading
+-- is as it was
+pub record SkipsEmptyEntries (old new : Entries) (count : ℕ) : Type 0 where
+  pub skips : (b : List ℕ) → SkipsEmpty count (to_come b old) (to_come b new)
+  pub left : most_to_come new + count ≤ most_to_come old
+  pub same : IsSameChunk old new
+  pub name : last_name new ≡ last_name old

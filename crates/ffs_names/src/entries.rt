@@ -67,7 +67,7 @@ impl Entries {
     ghost use Rattle.ffs_names.specs.Costs.{reads_for_entries, HoldsEntries};
     ghost use Rattle.ffs_names.specs.Leaves.{dir_reading, dir_walk, LeavesBlocks, LeavesEntries};
     ghost use Rattle.ffs_image.specs.Reads.{ReadAfter};
-    ghost use Rattle.ffs_names.specs.Shapes.{runs_of_inode, has_right_shape, BeginsDirectory, BeginsIn, EndsChunks, GivesDirectory, GivesEntry, HasEnded, HasStopped, RestartsIn, TakesFromChunk};
+    ghost use Rattle.ffs_names.specs.Shapes.{runs_of_inode, has_right_shape, BeginsDirectory, BeginsIn, EndsChunks, GivesDirectory, GivesEntry, HasEnded, HasStopped, RestartsIn, SkipsEmptyEntries, TakesFromChunk};
     ghost use Rattle.ffs_names.specs.Entering.{last_name, left_in_chunk};
 
     /// A reading of the directory with this inode. `cut` is how many offers it keeps where its
@@ -209,6 +209,26 @@ impl Entries {
         self.place += entry.length as usize;
         self.index += 1;
         Some(head)
+    }
+
+    /// Passes over the empty entries that come next in the current chunk. Returns how many. Its
+    /// loop has no more than a place and a count, where `take` keeps an entry and its name.
+    #[inline(always)]
+    pub(crate) fn skip_empty(&mut self) -> u32
+        ensures { SkipsEmptyEntries self.old self.new result }
+    {
+        let mut place = self.place;
+        let mut skipped = 0u32;
+        'entries: while let Some(entry) = entry_at(self.order, &self.chunk, place) {
+            if entry.number != 0 {
+                break;
+            }
+            place += usize::from(entry.length);
+            skipped += 1;
+        }
+        self.place = place;
+        self.index += skipped as usize;
+        skipped
     }
 
     /// Takes the next entry as `next` does, but doesn't stop the reading where a read fails.

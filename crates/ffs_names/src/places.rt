@@ -247,8 +247,10 @@ fn note_places_unlimited<I: Image>(
 }
 
 /// Notes in `queue`, of each directory that is reached from the root, where its parent entry is in
-/// the image (`ffs_workspace::word_of_part`): then a path takes one read for each of its directories.
-/// Each of their parents is read once. Afterwards no parent entry is due. The windows change too.
+/// the image (`ffs_workspace::word_of_part`): then a path takes one read for each of its
+/// directories. Each of their parents is read once. Afterwards no parent entry is due. The windows
+/// change too. Only an image that gives other bytes each time asks for more reads than a sweep has:
+/// then no place is noted.
 ///
 /// # Errors
 /// A read of the image that failed. Each place that is noted is right then too, so what the survey

@@ -105,6 +105,11 @@ impl<I: Image> Directories for DirectoryReader<'_, I> {
             .advance(self.image, &mut windows.blocks, &mut windows.current)
     }
 
+    #[inline(always)]
+    fn skip_empty(&mut self) -> u32 {
+        self.entries.skip_empty()
+    }
+
     fn has_right_shape(&mut self) -> Result<bool, ImageFault> {
         self.entries
             .has_right_shape(self.image, &mut self.windows.blocks)

@@ -70,6 +70,9 @@ fn survey_unlimited<I: Image>(
 /// A second survey of the workspace, also after later phases, reads nothing and counts no reference
 /// again: what the first one found is there still. It flags no directory.
 ///
+/// Only an image that gives other bytes each time asks for more reads than a sweep has. The survey
+/// ends there with no fault, and doesn't count as made.
+///
 /// # Errors
 /// A read of the image that failed.
 #[tactic(auto, using(ffs_image::proofs::Limits::served, ffs_image::proofs::Limits::read_over, ffs_workspace::proofs::Leaving::claims_held, ffs_workspace::proofs::Leaving::windows_leave, crate::proofs::Limits::noted_within))]

@@ -10,7 +10,7 @@ use Rattle.ffs_report.specs.declared.fault.RunFault.{RunFault, TheVariants.{Read
 use Rattle.ffs_workspace.specs.declared.workspace.Workspace.{Workspace}
 use Rattle.ffs_paths.specs.{declared.kept_parent.KeptParent.KeptParent, Reads.KnowsPlaces}
 use Rattle.ffs_pathnames.specs.{DirectoryContext.{DirectoryContext, KeepsPath, KnowsPath}, Ready.LimitedPathLeaves}
-use Rattle.ffs_pathnames.specs.{EntryLines.ReportsEntries, Moments.LinesMoment}
+use Rattle.ffs_pathnames.specs.{EntryLines.SaysEntryLines, Moments.LinesMoment}
 use Rattle.ffs_pathnames.specs.{declared.entry_texts.EntryTexts.EntryTexts, PassedNames.{PassedNames, entries_reported}}
 use Rattle.ffs_pathnames.{specs.{PassedNames.roled_reported, LineReads.ReadsPathOnce}, proofs.PathOnce.by_once}
 use Rattle.ffs_pathnames.proofs.LineCounts.{by_line, knows_places, some_said}
@@ -28,7 +28,7 @@ module _ {S : Type 0} {v : Layout} {d d' : Device} {w w' : Workspace} {x : ℕ} 
     (some : ForBytes (DirectoryContext v d.contents w x) (λ bytes. 1 ≤ length (lines (volume_of v bytes)))) where
   -- a read failed
   pub entry_unread : {T : Type 0} {a : Progress} {fault : _} →
-      ReportsEntries {T = T} v x lines (entries_at d reads w a t) (entries_at d' reads' w' a t') (Err (Read fault))
+      SaysEntryLines {T = T} v x lines (entries_at d reads w a t) (entries_at d' reads' w' a t') (Err (Read fault))
   entry_unread = record {
     text = reads_first;
     path = keeps;
@@ -41,7 +41,7 @@ module _ {S : Type 0} {v : Layout} {d d' : Device} {w w' : Workspace} {x : ℕ} 
   -- the lines were said, or the output failed among them
   pub entry_said : {T : Type 0} {a b : Progress} {y : T} (ms : List TreeMessage) → 1 ≤ length ms →
       ForBytes (KnowsPath v d.contents w x t) (λ bytes. lines (volume_of v bytes) ≡ ms) → Said a b (map of_tree ms) →
-      ReportsEntries v x lines (entries_at d reads w a t) (entries_at d' reads' w' b t') (Ok y)
+      SaysEntryLines v x lines (entries_at d reads w a t) (entries_at d' reads' w' b t') (Ok y)
   entry_said ms many right said = record {
     text = says_all (λ bytes k. ap (map of_tree) (right bytes k)) said;
     path = keeps;
@@ -53,7 +53,7 @@ module _ {S : Type 0} {v : Layout} {d d' : Device} {w w' : Workspace} {x : ℕ} 
 
   pub entry_stopped : {T : Type 0} {a b : Progress} {fault : _} (ms : List TreeMessage) → 1 ≤ length ms →
       ForBytes (KnowsPath v d.contents w x t) (λ bytes. lines (volume_of v bytes) ≡ ms) → Stopped a b (map of_tree ms) →
-      ReportsEntries {T = T} v x lines (entries_at d reads w a t) (entries_at d' reads' w' b t') (Err (Out fault))
+      SaysEntryLines {T = T} v x lines (entries_at d reads w a t) (entries_at d' reads' w' b t') (Err (Out fault))
   entry_stopped ms many right stopped = record {
     text = stops_all (λ bytes k. ap (map of_tree) (right bytes k)) stopped;
     path = keeps;
@@ -65,6 +65,6 @@ module _ {S : Type 0} {v : Layout} {d d' : Device} {w w' : Workspace} {x : ℕ} 
 
 -- the lines of an entry alone are its lines
 pub one_entry : {T : Type 0} {v : Layout} {x : ℕ} {old new : LinesMoment EntryTexts} {r : Result T RunFault}
-    (m : PassedNames) (e : RoledEntry) → ReportsEntries v x (λ vol. roled_reported vol x m e) old new r →
-    ReportsEntries v x (λ vol. entries_reported vol x m (e ∷ [])) old new r
+    (m : PassedNames) (e : RoledEntry) → SaysEntryLines v x (λ vol. roled_reported vol x m e) old new r →
+    SaysEntryLines v x (λ vol. entries_reported vol x m (e ∷ [])) old new r
 one_entry m e lines = simp append-nil lines

@@ -12,7 +12,7 @@ use Rattle.ffs_pathnames.specs.Ready.{DirectoryLeaves}
 -- lines of entries of the directory `dir` are said, those of the volume; the path that is settled, if
 -- any, is still that of `dir`, and made once; and the image is read for no more than these lines, any image
 -- for no more than the messages that were begun
-pub record ReportsEntries {T : Type 0} (v : Layout) (dir : ℕ) (lines : Volume → List TreeMessage)
+pub record SaysEntryLines {T : Type 0} (v : Layout) (dir : ℕ) (lines : Volume → List TreeMessage)
     (old new : LinesMoment EntryTexts) (result : Result T RunFault) : Type 0 where
   pub text : PhaseReports (KnowsPath v old.at.image.contents old.at.workspace dir old.kept)
       (λ b. map of_tree (lines (volume_of v b))) old.said new.said result
@@ -28,14 +28,14 @@ pub record ReportsEntries {T : Type 0} (v : Layout) (dir : ℕ) (lines : Volume 
 -- such lines are said, and all of the workspace but its windows stays
 pub record ReportsOneEntry {T : Type 0} (v : Layout) (dir : ℕ) (messages : Volume → List TreeMessage)
     (old new : LinesMoment EntryTexts) (result : Result T RunFault) : Type 0 where
-  pub lines : ReportsEntries v dir messages old new result
+  pub lines : SaysEntryLines v dir messages old new result
   pub leaves : LinesLeave v old.at new.at new.kept.kept_parent result
 
 -- the lines of these entries are said, and they are passed. The window of the current directory is as it
 -- was
 pub record PassesEntries {T : Type 0} (v : Layout) (dir : ℕ) (entries : List RoledEntry)
     (old new : LinesMoment EntryTexts) (result : Result T RunFault) : Type 0 where
-  pub lines : ReportsEntries v dir (λ vol. entries_reported vol dir (passed_of old.at.workspace) entries) old new result
+  pub lines : SaysEntryLines v dir (λ vol. entries_reported vol dir (passed_of old.at.workspace) entries) old new result
   pub passed : OnOk result (ForBytes (DirectoryContext v old.at.image.contents old.at.workspace dir) (λ b.
       after_entries (volume_of v b) dir (passed_of old.at.workspace) entries ≡ passed_of new.at.workspace))
   pub leaves : DirectoryLeaves v old.at new.at new.kept.kept_parent result

@@ -147,7 +147,7 @@ module _ {S : Type 0} (I : Ghosts S) (v : Layout) (old new : S) (w w' : Workspac
   pub record PutsWanted {T : Type 0} (wanted : Bool) (dir : ℕ) (t t' : EntryTexts) (result : Result T ImageFault)
       : Type 0 where
     pub path : OnOk result ((y : ℕ) → ForBytes (DirectoryContext v (I.device old).contents w y) (λ b.
-        IsTrue wanted → t'.directory.items ≡ dir_path (graph_of (volume_of v b)) dir))
+        IsTrue wanted → t'.shown_directory.items ≡ dir_path (graph_of (volume_of v b)) dir))
     pub same : (t'.path_settled ≡ t.path_settled) × (t'.paths ≡ t.paths)
     pub leaves : ReadsForPaths (if_wanted wanted path_reads) t'.kept_parent result
 
@@ -167,7 +167,7 @@ module _ {S : Type 0} (I : Ghosts S) (v : Layout) (old new : S) (w w' : Workspac
       : Type 0 where
     pub enough : IfOk result (λ a. (dir : ℕ) → ForBytes (DirectoryContext v (I.device old).contents w dir) (λ b.
         IsPathOf (graph_of (volume_of v b)) dir t.paths.directory
-        → IsEnough (volume_of v b) verdict dir e.number e.name a (last_path t'.paths) t'.directory.items))
+        → IsEnough (volume_of v b) verdict dir e.number e.name a (last_path t'.paths) t'.shown_directory.items))
     pub same : (t'.path_settled ≡ t.path_settled) × (t'.paths.directory ≡ t.paths.directory)
     pub leaves : ReadsForPaths (verdict_reads verdict) t'.kept_parent result
 
@@ -177,7 +177,7 @@ module _ {S : Type 0} (I : Ghosts S) (v : Layout) (old new : S) (w w' : Workspac
       : Type 0 where
     pub enough : IfOk result (λ a. ForBytes (KnowsPath v (I.device old).contents w e.dir t) (λ b.
         IsEnough (volume_of v b) verdict e.dir e.entry.number e.entry.name.now a (last_path t'.paths)
-        t'.directory.items))
+        t'.shown_directory.items))
     pub path : KeepsPath v (I.device old) w e.dir t t'
     pub once : BeginsOnce (verdict_reads verdict) t t' result
     pub leaves : ReadsForPaths line_reads t'.kept_parent result
@@ -188,7 +188,7 @@ module _ {S : Type 0} (I : Ghosts S) (v : Layout) (old new : S) (w w' : Workspac
     pub attr : IfOk result (λ a. ForBytes (DirectoryContext v (I.device old).contents w dir) (λ b.
         a ≡ attributes (volume_of v b) dir))
     pub text : OnOk result (ForBytes (KnowsPath v (I.device old).contents w dir t) (λ b.
-        t'.directory.items ≡ dir_path (graph_of (volume_of v b)) dir))
+        t'.shown_directory.items ≡ dir_path (graph_of (volume_of v b)) dir))
     pub path : KeepsPath v (I.device old) w dir t t'
     pub once : BeginsOnce 1 t t' result
     pub leaves : ReadsForPaths line_reads t'.kept_parent result

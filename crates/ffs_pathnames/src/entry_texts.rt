@@ -24,7 +24,7 @@ pub struct EntryTexts {
     /// The path of the directory that the entries are in, and that of the last entry.
     pub paths: EntryPaths,
     /// The path of the directory that a line shows: the entry names it, or an extra entry is in it.
-    pub directory: PathText,
+    pub shown_directory: PathText,
 }
 
 impl EntryTexts {
@@ -43,7 +43,7 @@ impl EntryTexts {
                 reached: false,
                 names: PathBuffer::new(),
             }),
-            directory: PathText::new(),
+            shown_directory: PathText::new(),
         }
     }
 }

@@ -69,7 +69,7 @@ pub fn gather_extra<I: Image>(
 {
     make_path_once(geometry, image, workspace, texts, dir)?;
     let paths = &texts.paths;
-    paths.directory.put(&mut texts.directory);
+    paths.directory.put(&mut texts.shown_directory);
     read_attr(geometry, image, workspace, dir)
 }
 
@@ -119,7 +119,7 @@ fn gather_named_path<I: Image>(
         workspace,
         kept_parent,
         dir,
-        &mut texts.directory,
+        &mut texts.shown_directory,
     )
 }
 

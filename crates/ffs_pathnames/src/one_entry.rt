@@ -1,7 +1,7 @@
 //! The lines of a plain or an extra entry.
 ghost use Rattle.ffs_workspace.specs.Moments.{work_moment};
 ghost use Rattle.ffs_volume.specs.Directories.PathnameCheck.{extra_lines};
-ghost use Rattle.ffs_pathnames.specs.{EntryLines.ReportsEntries, Moments.{lines_moment}, Ready.{ReadyToPath, LinesLeave}};
+ghost use Rattle.ffs_pathnames.specs.{EntryLines.SaysEntryLines, Moments.{lines_moment}, Ready.{ReadyToPath, LinesLeave}};
 ghost use Rattle.ffs_pathnames.specs.{SaysTreeMessages.SaysTreeMessages, Gathers.{HasInodeLists, IsVerdictIn, extra_reported, plain_lines_by}};
 ghost use Rattle.ffs_layout.specs.Entry.{entry_value};
 ghost use Rattle.ffs_report.specs.Progress.{progress};
@@ -46,7 +46,7 @@ pub fn report_plain<I: Image, W: Output>(
 ) -> Result<(), RunFault>
     requires ready { ReadyToPath geometry.now.layout (I.device image.old) workspace.old
         texts.old.kept_parent entry.now.dir }
-    ensures lines { ReportsEntries geometry.now.layout entry.now.dir
+    ensures lines { SaysEntryLines geometry.now.layout entry.now.dir
         (λ vol. plain_lines_by vol workspace.old entry.now)
         (lines_moment I.Image W.Output image.old workspace.old report.old texts.old)
         (lines_moment I.Image W.Output image.new workspace.new report.new texts.new) result }
@@ -63,7 +63,7 @@ pub fn report_plain<I: Image, W: Output>(
         entry.entry.number,
         attr,
         texts.paths.last(),
-        texts.directory.as_slice(),
+        texts.shown_directory.as_slice(),
         report,
     )?;
     Ok(())
@@ -103,7 +103,7 @@ pub fn report_extra<I: Image, W: Output>(
 ) -> Result<(), RunFault>
     requires { ReadyToPath geometry.now.layout (I.device image.old) workspace.old
         texts.old.kept_parent entry.now.dir }
-    ensures lines { ReportsEntries geometry.now.layout entry.now.dir
+    ensures lines { SaysEntryLines geometry.now.layout entry.now.dir
         (λ vol. extra_reported vol entry.now)
         (lines_moment I.Image W.Output image.old workspace.old report.old texts.old)
         (lines_moment I.Image W.Output image.new workspace.new report.new texts.new) result }
@@ -111,6 +111,6 @@ pub fn report_extra<I: Image, W: Output>(
         (work_moment I.Image image.new workspace.new) texts.new.kept_parent result }
 {
     let attr = gather_extra(geometry, image, workspace, texts, entry.dir)?;
-    say_extra(attr, texts.directory.as_slice(), &entry.entry, report)?;
+    say_extra(attr, texts.shown_directory.as_slice(), &entry.entry, report)?;
     Ok(())
 }

@@ -3,6 +3,7 @@
 -- What a reading of directories finds:
 --   Remaining       reading on changes no final result: what was found, and what is still to be read
 --   Discovered      what an entry, a directory and a level discover
+--   Skipping        nothing that is found depends on empty entries that are passed over
 --   Totals          sums over a list of directories and over all of them, and the count over entries
 --   Lending         what a call leaves of the lists and of the reader, which are lent
 --   Costs           the costs of directories: some of them, and all
@@ -28,6 +29,7 @@ pub mod Remaining
 mod Discovered
 mod Frontiers
 mod Totals
+mod Skipping
 mod Queues
 mod NextLevel
 mod UnreachedLaws

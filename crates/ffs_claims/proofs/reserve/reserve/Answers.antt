@@ -14,9 +14,11 @@ returns c =
     rw (c.reserve.ensures.bits, same) (stay_reserved v (bits_of w.used) (bits_long w.used ∙ c.requires.used)) in
     let duplicates = stay (bits_of w.duplicates) in
     record {
+      used = c.reserve.ensures.bits ∙ ap (with_reserved v) same;
       claims = λ fresh. reserved_claims v (claims_of w) (claims_of c.clear_counts.new.workspace)
           (bits_of c.reserve.new.self) (ap claims_of c.clear_counts.ensures) fresh.duplicates
           (c.reserve.ensures.bits ∙ ap (with_reserved v) (same ∙ fresh.used));
       runs = search rules;
+      counts = grind arith;
       only = grind arith;
     }

@@ -5,7 +5,7 @@ use Rattle.ffs_volume.specs.{Find.Owner.keeper_lines_of_inode, Blocks.Inodes.ino
 use Rattle.ffs_report.{proofs.Sinks.took_nil, specs.declared.fault.RunFault.RunFault}
 use Rattle.ffs_image.specs.Known.{ForBytes}
 use Rattle.ffs_workspace.specs.declared.workspace.Workspace.{Workspace}
-use Rattle.ffs_finding.specs.Claims.{WithOwners}
+use Rattle.ffs_finding.specs.Claims.{WithBlocks}
 use Rattle.ffs_claims.proofs.{Rescanned.runs_most, Frames.image_from}
 use Rattle.ffs_finding.proofs.{Keepers.{found_lines, found_reads, stays_then}, Owners.{inode_runs, keepers_begin}}
 use Rattle.ffs_finding.proofs.{Owners.{keepers_end, keepers_from, keepers_next, no_lines}, Printing.{part, part_fault}}
@@ -71,7 +71,7 @@ loop-number-preserved-then-not-is_allocated g c =
     let f = c.args.fragment in
     let high : n < inodes_of v = omega arith in
     let free = unallocated _ _ c.is_allocated.ensures c.if-not-is_allocated.true in
-    let knows = WithOwners v (g.I.Image.device c.args.image.now) c.args.workspace.now in
+    let knows = WithBlocks v (g.I.Image.device c.args.image.now) c.args.workspace.now in
     let kind : ForBytes knows (λ b. kind_at v b n ≡ 0) = λ b k. sym (k.1.kinds n)
     ∙ (sym (ap (λ (z : Workspace). slice_index z.kinds.items n) inv.stays.held) ∙ free) in
     let note : ForBytes knows (λ b. slice_index c.loop-number.workspace.notes.items n ≡ note_at v b n) = λ b k.

@@ -2,7 +2,7 @@ use Rattle.std.proofs.Common.{◌≡◌, ◌+◌, ◌-◌, ◌<◌, ◌≤◌}
 use Rattle.ffs_volume.specs.{Blocks.{KeptSteps.claims_before, Inodes.inodes_of}, Find.Owner.keeper_lines}
 use Rattle.ffs_image.specs.Known.{ForBytes}
 use Rattle.ffs_workspace.specs.Ready.{KeepsWindows}
-use Rattle.ffs_finding.specs.Claims.{WithOwners}
+use Rattle.ffs_finding.specs.Claims.{WithBlocks}
 use Rattle.ffs_finding.{specs.Outcome.PrintedTo, proofs.Owners.keepers_from}
 use Rattle.ffs_finding.proofs.owner.find_keepers_unlimited.Given as goal
 
@@ -10,7 +10,7 @@ abbrev pub invariant-loop-number : goal.invariant-loop-number
 invariant-loop-number g l =
     let v = l.geometry.layout in
     let d = g.I.Image.device l.fn.image in
-    let knows = WithOwners v d l.fn.workspace in
+    let knows = WithBlocks v d l.fn.workspace in
     record {
       device : g.I.Image.device l.image ≡ d;
       stays : KeepsWindows v (g.I.Image.device l.image) l.fn.workspace l.workspace;

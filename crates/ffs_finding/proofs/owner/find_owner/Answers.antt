@@ -7,7 +7,7 @@ use Rattle.ffs_volume.specs.Find.Owner.{reserved_text}
 use Rattle.ffs_maps.specs.Bits.{bits_of}
 use Rattle.ffs_image.specs.Known.{ForBytes}
 use Rattle.ffs_workspace.specs.declared.workspace.Workspace.{Workspace}
-use Rattle.ffs_finding.{specs.{Claims.{HoldsOwners, WithOwners}, Keepers.map_lines}, proofs.{Claimed.{claimed_is, has_line}, Keepers.same_lines}}
+use Rattle.ffs_finding.{specs.{Claims.{HoldsBlocks, WithBlocks}, Keepers.map_lines}, proofs.{Claimed.{claimed_is, has_line}, Keepers.same_lines}}
 use Rattle.ffs_finding.proofs.Leaving.{block_read, size_after}
 use Rattle.ffs_finding.proofs.Printing.{knowing, one, one_broken, prints_all, prints_none, stops_all}
 use Rattle.ffs_finding.proofs.owner.find_owner.Goals as goal
@@ -36,13 +36,13 @@ second_ones (x ∷ xs) ys e = cc
 
 -- what is held stays where only the windows change
 owners_held : (v : Layout) (b : List ℕ) (old new : Workspace) → new ≡ record old { windows = new.windows } →
-    HoldsOwners v b old → HoldsOwners v b new
+    HoldsBlocks v b old → HoldsBlocks v b new
 owners_held v b old new e h = grind arith
 
 -- whether the fragment is claimed says which lines there are
 claimed_lines : (v : Layout) (d : Device) (w : Workspace) (f : ℕ) (claimed : Bool) → IsAcceptedLayout v → f < v.size →
     is_reserved v f ≡ false → claimed ≡ is_set (bits_of w.used) f →
-    ForBytes (WithOwners v d w) (λ b. claimed ≡ has_line (keeper_lines v b f))
+    ForBytes (WithBlocks v d w) (λ b. claimed ≡ has_line (keeper_lines v b f))
 claimed_lines v d w f claimed g h r e b k = e ∙ (ap (λ bits. is_set bits f) k.1.used ∙ claimed_is v b f g h r)
 
 pub returns-then-fragment-geometry-clause-prints : goal.returns-then-fragment-geometry-clause-prints
@@ -84,11 +84,11 @@ returns-then-get-clause-prints g c =
     let did = c.find_keepers.ensures.prints in
     record {
       image = did.image;
-      text = same_lines (WithOwners v d c.args.workspace.now) (λ b. keeper_lines v b f)
+      text = same_lines (WithBlocks v d c.args.workspace.now) (λ b. keeper_lines v b f)
           (λ b. lines_of_fragment v b f) _ _ _
           (λ b k. sym (others v b f (omega arith) free ∙ first_ones (keeper_lines v b f) (map_lines v b f)
           (sym (some b k) ∙ c.if-get.true)))
-          (knowing _ _ (WithOwners v d c.args.workspace.now) _ _ _ _
+          (knowing _ _ (WithBlocks v d c.args.workspace.now) _ _ _ _
           (λ b k. (k.0, owners_held v b c.args.workspace.now _ forgot k.1)) did.text);
     }
 
@@ -104,11 +104,11 @@ returns-clause-prints g c =
     let did = c.print_unclaimed.ensures.prints in
     record {
       image = did.image;
-      text = same_lines (WithOwners v d c.args.workspace.now) (λ b. map_lines v b f)
+      text = same_lines (WithBlocks v d c.args.workspace.now) (λ b. map_lines v b f)
           (λ b. lines_of_fragment v b f) _ _ _
           (λ b k. sym (others v b f (omega arith) free ∙ second_ones (keeper_lines v b f) (map_lines v b f)
           (sym (some b k) ∙ c.if-get.false)))
-          (knowing _ _ (WithOwners v d c.args.workspace.now) _ _ _ _ (λ b k. k.0) did.text);
+          (knowing _ _ (WithBlocks v d c.args.workspace.now) _ _ _ _ (λ b k. k.0) did.text);
     }
 
 pub returns-clause-ready : goal.returns-clause-ready

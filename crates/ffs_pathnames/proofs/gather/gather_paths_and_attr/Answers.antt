@@ -13,7 +13,7 @@ returns g c =
     record {
       enough = if_ok c.gather_own_path_and_attr.result _ _
           (λ a e dir b k p. e b (ap (λ x. x.contents) path.leaves.path.reads.read ∙ k.gives_bytes) dir
-          c.gather_named_path.new.texts.directory.items
+          c.gather_named_path.new.texts.shown_directory.items
           (rw path.same.1 p) (λ q. path.path dir b k (wants ∙ q)))
           c.gather_own_path_and_attr.ensures.enough;
       same = (path.same.0, c.gather_own_path_and_attr.ensures.same ∙ ap (λ p. p.directory) path.same.1);
