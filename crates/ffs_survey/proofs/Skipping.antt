@@ -1,10 +1,10 @@
 -- What is found doesn't change where empty entries are passed over.
-use Rattle.std.proofs.Common.{◌≡◌, ℕ, zero, suc, ◌+◌, ◌≤◌, ◌&&◌, Bool, true, false, List, [], ◌∷◌, sym, ap, arith}
+use Rattle.std.proofs.Common.{◌≡◌, ℕ, zero, suc, ◌+◌, ◌≤◌, ◌&&◌, Bool, true, false, nat_le, List, [], ◌∷◌, sym, ap, arith}
 use mathlib.Core.Path.{fun_ext}
-use Rattle.std.proofs.lemmas.{Bool.{and_parts, Decides.nat_tests}}
-use Rattle.ffs_volume.specs.Directories.Calm.{CurrentDir, are_calm, is_calm_entry, is_calm_role, reached_after}
-use Rattle.ffs_volume.specs.{Directories.Roles.RoledEntry, declared.Role.{Role, TheVariants.{Dot, Dotdot, Empty, Extra, Plain}}}
-use Rattle.ffs_survey.specs.{Discover.{any_in, count_in, from_entries}, Lent.IsNoneUnlessEmpty, Reading.SkipsEmpty}
+use Rattle.std.proofs.lemmas.Bool.Decides.nat_tests
+use Rattle.ffs_volume.specs.Directories.Calm.{CurrentDir, are_calm, reached_after}
+use Rattle.ffs_volume.specs.{Directories.Roles.RoledEntry, declared.Role.TheVariants.Empty}
+use Rattle.ffs_survey.specs.{Discover.{any_in, count_in, from_entries}, Reading.SkipsEmpty}
 
 -- no reference is passed over
 count_skipped : (n : ℕ) (rest rest' : List RoledEntry) (x : ℕ) → SkipsEmpty n rest rest' → count_in rest x ≡ count_in rest' x
@@ -42,29 +42,19 @@ calm_skipped s reached (suc n) i (e ∷ rest) rest' skips later =
     let empty = skips.0 in
     grind arith
 
-late_role : (s : CurrentDir) (reached : ℕ → Bool) (i : ℕ) (role : Role) (number kind n : ℕ) →
-    is_calm_role s reached i role number kind ≡ true → IsNoneUnlessEmpty role (suc n) → 2 ≤ i
-late_role s reached i Empty number kind n calm none = grind (arith, nat_tests)
-late_role s reached i Dot number kind n calm none = absurd (omega (arith, none))
-late_role s reached i Dotdot number kind n calm none = absurd (omega (arith, none))
-late_role s reached i Extra number kind n calm none = absurd (omega (arith, none))
-late_role s reached i Plain number kind n calm none = absurd (omega (arith, none))
-
--- a calm entry after which any is passed over is the third one or a later one
-late_if_empty : (s : CurrentDir) (reached : ℕ → Bool) (i : ℕ) (e : RoledEntry) (n : ℕ) →
-    is_calm_entry s reached i e ≡ true → IsNoneUnlessEmpty e.role (suc n) → 2 ≤ i
-late_if_empty s reached i e n calm none = late_role s reached i e.role e.entry.number e.entry.kind n calm none
-
--- so the step of the loop over a directory may pass over those after an empty one
-pub calm_after : {calm' total : Bool} (calm : Bool) (s : CurrentDir) (reached reached' : ℕ → Bool) (e : RoledEntry) (n i : ℕ)
-    (rest rest' : List RoledEntry) → SkipsEmpty n rest rest' → IsNoneUnlessEmpty e.role n →
-    calm' ≡ (calm && is_calm_entry s reached i e) → (calm' && are_calm s reached' (i + 1) rest) ≡ total →
-    (calm' && are_calm s reached' (i + (1 + n)) rest') ≡ total
-calm_after {calm' = false} calm s reached reached' e n i rest rest' skips none is whole = whole
-calm_after {calm' = true} calm s reached reached' e zero i rest rest' same none is whole = rw same whole
-calm_after {calm' = true} calm s reached reached' e (suc n) i rest rest' skips none is whole =
-    let both = and_parts calm (is_calm_entry s reached i e) (sym is) in
-    let late : 2 ≤ i = late_if_empty s reached i e n both.1 none in
-    let next : i + 1 + suc n ≡ i + (1 + suc n) = omega arith in
-    let skipped = calm_skipped s reached' (suc n) (i + 1) rest rest' skips (omega (arith, late)) in
+-- so the step of the loop over a directory passes over an empty entry and those that come next
+calm_late : {total : Bool} (late calm : Bool) (s : CurrentDir) (reached : ℕ → Bool) (n i : ℕ) (e : RoledEntry)
+    (rest rest' : List RoledEntry) → late ≡ nat_le 2 i → SkipsEmpty (suc n) (e ∷ rest) rest' →
+    (calm && are_calm s reached i (e ∷ rest)) ≡ total → ((calm && late) && are_calm s reached (i + suc n) rest') ≡ total
+calm_late true calm s reached n i e rest rest' is skips whole =
+    let late : 2 ≤ i = omega (arith, nat_tests, is) in
+    let skipped = calm_skipped s reached (suc n) i (e ∷ rest) rest' skips late in
     grind arith
+calm_late false calm s reached n i e rest rest' is skips whole = let empty = skips.0 in grind arith
+
+pub calm_over : {total : Bool} (calm : Bool) (s : CurrentDir) (reached : ℕ → Bool) (n i : ℕ) (e : RoledEntry)
+    (rest rest' : List RoledEntry) → e.role ≡ Empty → SkipsEmpty n rest rest' →
+    (calm && are_calm s reached i (e ∷ rest)) ≡ total →
+    ((calm && nat_le 2 i) && are_calm s reached (i + (1 + n)) rest') ≡ total
+calm_over calm s reached n i e rest rest' empty skips whole =
+    calm_late (nat_le 2 i) calm s reached n i e rest rest' refl (empty, skips) whole

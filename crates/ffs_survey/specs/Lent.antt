@@ -9,8 +9,6 @@ use Rattle.ffs_survey.specs.{declared.directories.Directories.Ghosts, Survey.{nu
 use Rattle.ffs_survey.specs.Survey.{most_start}
 use Rattle.ffs_volume.specs.Encodings.Kinds.{dir_at}
 use Rattle.ffs_survey.specs.Calm.{dir_by, AreCalm, IsFlagged, IsReadOnce}
-use Rattle.ffs_volume.specs.declared.Role.{Role, TheVariants.{Dot, Dotdot, Empty, Extra, Plain}}
-use Rattle.ffs_survey.specs.Reading.{SkipsEmpty}
 use Rattle.ffs_volume.specs.{Directories.Calm.CurrentDir, Report.DirectoryReads.costs_below}
 use Rattle.ffs_survey.specs.Discover.{AreDiscovered, Extends, Found, IsReachedDir, IsReachedPart, from_entries}
 use Rattle.ffs_survey.specs.{Discover.{is_unreached_dir, unset}, Levels.ReadsUnreached, Lists.{AreLists, GrowsBy}}
@@ -138,14 +136,6 @@ pub record Visits (d : ℕ) (e : RoledEntry) (top end : ℕ) (old new : Lists) :
   pub extends : Extends top end old.queue.now.items new.queue.now.items
   pub counts : KeepsCounts old new
 
--- it is 0, where the role isn't Empty
-abbrev pub IsNoneUnlessEmpty : Role → ℕ → Type 0
-IsNoneUnlessEmpty Empty n = Unit {0}
-IsNoneUnlessEmpty Dot n = n ≡ 0
-IsNoneUnlessEmpty Dotdot n = n ≡ 0
-IsNoneUnlessEmpty Extra n = n ≡ 0
-IsNoneUnlessEmpty Plain n = n ≡ 0
-
 module _ {S : Type 0} (D : Ghosts S) where
   -- P holds of the entries of each directory and of which directories have a right shape, by each
   -- list of bytes that the reader's base knows to be the image's
@@ -228,20 +218,6 @@ module _ {S : Type 0} (D : Ghosts S) where
     pub same : D.base new ≡ D.base old
     pub read : ReadAfter (D.device old) (D.device new) result
     pub counted : (b : List ℕ) → D.knows (D.base old) b → D.held old → D.reads new ≤ D.reads old + D.to_read old b
-
-  -- after an entry of this role so many were passed over, which are empty, and none but after an empty one.
-  -- The image isn't read, and all else of the reading stays
-  pub record SkipsAfter (role : Role) (count : ℕ) (old new : S) : Type 0 where
-    pub none : IsNoneUnlessEmpty role count
-    pub is_ready : D.ready new
-    pub same : D.base new ≡ D.base old
-    pub device : D.device new ≡ D.device old
-    pub rest : (b : List ℕ) → D.knows (D.base old) b → SkipsEmpty count (D.rest old b) (D.rest new b)
-    pub left : D.left new + count ≤ D.left old
-    pub counted : (b : List ℕ) → D.knows (D.base old) b → D.held old
-        → D.reads new + D.to_read new b ≤ D.reads old + D.to_read old b
-    pub held : (b : List ℕ) → D.knows (D.base old) b → D.held old → D.held new
-    pub shape : (b : List ℕ) → D.knows (D.base old) b → D.right_shape_so_far new b ≡ D.right_shape_so_far old b
 
   -- all directories that are reached from inode 2 are read, each once, references are counted on from
   -- what the lists held, and only calm directories have a flag. No inode has more than 2^59 references

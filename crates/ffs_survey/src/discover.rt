@@ -4,7 +4,7 @@ ghost use Rattle.std.specs.List.{sum_by};
 ghost use Rattle.ffs_volume.specs.Directories.Roles.{is_plain as is_plain_role};
 ghost use Rattle.ffs_survey.specs.{Reading.roled_of, Lists.CountLists, Survey.{bool_at}};
 ghost use Rattle.ffs_survey.specs.Lent.{found_up_to, current_of, ForKnown, CanVisit, CanCount, CanReach, CanReadLevel};
-ghost use Rattle.ffs_survey.specs.Lent.{Adopts, AddsUnreached, FlagsIfCalm, LeavesLent, SkipsAfter, Visits};
+ghost use Rattle.ffs_survey.specs.Lent.{Adopts, AddsUnreached, FlagsIfCalm, LeavesLent, Visits};
 ghost use Rattle.ffs_survey.specs.Levels.{Discovers, ReadsReached, ReadsDirs};
 ghost use Rattle.ffs_volume.specs.Directories.Calm.{is_calm_kind, is_calm_plain, is_calm_entry};
 ghost use Rattle.ffs_survey.specs.Discover.{IsCounted, is_unreached_dir as is_unreached_dir_at};
@@ -151,19 +151,6 @@ fn flag_calm<D: Directories>(
     Ok(())
 }
 
-/// After an empty entry passes over those that come next and are empty too, as far as no read is
-/// needed. Returns how many. Nothing is counted of them, and where the first one is calm, so are
-/// they.
-fn skip_after<D: Directories>(entry: EntryHead, directories: &mut D) -> u32
-    requires { D.ready directories.old }
-    ensures { SkipsAfter D.Directories entry.role result directories.old directories.new }
-{
-    match entry.role {
-        Role::Empty => directories.skip_empty(),
-        _ => 0,
-    }
-}
-
 /// Reads the directory `from` of a level: counts its entries, discovers what they name, and flags
 /// it in `calm` if nothing can be reported of it. No count grows by more than 2^28, since a
 /// directory has no more entries (`Directories::start`). The counts before are at most 2^60: more
@@ -195,10 +182,15 @@ fn read_reached<D: Directories>(
     let mut count = 0u32;
     directories.start(from)?;
     while let Some(entry) = directories.next()? {
+        if matches!(entry.role, Role::Empty) {
+            calm_so_far = calm_so_far && count >= 2;
+            count += 1 + directories.skip_empty();
+            continue;
+        }
         count_entry(entry, current.kinds, lists.references, lists.named);
         calm_so_far = calm_so_far && is_calm_entry(entry, count, &current, lists);
         high = visit(entry, &current, lists, high);
-        count += 1 + skip_after(entry, directories);
+        count += 1;
     }
     flag_calm(directories, from, calm_so_far, count, lists.calm)?;
     Ok(high)
@@ -263,9 +255,12 @@ pub fn read_unreached<D: Directories>(
 {
     directories.start(from)?;
     while let Some(entry) = directories.next()? {
+        if matches!(entry.role, Role::Empty) {
+            directories.skip_empty();
+            continue;
+        }
         count_entry(entry, lists.kinds, lists.references, lists.named);
         adopt(entry, from, lists);
-        skip_after(entry, directories);
     }
     Ok(())
 }

@@ -2,7 +2,7 @@ use Rattle.std.proofs.Common.{arith, ap, ◌∙◌, ◌&&◌, rules, ◌≡◌, 
 use Rattle.ffs_volume.specs.Directories.Roles.{RoledEntry, refers}
 use Rattle.ffs_survey.proofs.{CalmLaws.{calm_step, read_whole}, Discovered.{bit-le, entry_step}, Lending.still_by}
 use Rattle.ffs_survey.proofs.{Lending.{same_kinds, queue_long}, Queues.{extends_on, keeps_queue}, Totals.entry_counted}
-use Rattle.ffs_survey.proofs.{Remaining.{discovered_same, discovered_whole}, Skipping.{calm_after, skipped_same}}
+use Rattle.ffs_survey.proofs.Remaining.{discovered_same, discovered_whole}
 use Rattle.ffs_survey.specs.{Lent.current_in, Reading.roled_of, Survey.{bool_at, number_at}}
 use Rattle.ffs_volume.specs.Directories.Calm.{is_calm_entry}
 use Rattle.ffs_survey.proofs.discover.read_reached.Goals.{then-calm_so_far, else-calm_so_far}
@@ -24,11 +24,6 @@ loop-entry-preserved g c =
     let counted = c.count_entry.ensures in
     let visited = c.visit-high.ensures in
     let same_result = rw (same_kinds inv.lent.same) at (discovered_same visited.discovered) in
-    let skip = c.skip_after.ensures in
-    let same = c.in_ok-entry.ensures.reader.same ∙ inv.lent.base in
-    let skips = rw same at skip.rest in
-    let same_found = λ (b : List ℕ) (k : g.D.Directories.knows (g.D.Directories.base c.args.directories.now) b).
-    skipped_same c.skip_after.result (rest b) (g.D.Directories.rest c.skip_after.new.directories b) (skips b k) in
     let right : c.if-calm_so_far.calm_so_far ≡ (c.loop-entry.calm_so_far
     && is_calm_entry current (bool_at c.loop-entry.lists.reached.now.items) c.loop-entry.count e)
     = elim c.if-calm_so_far.branch [
@@ -36,31 +31,26 @@ loop-entry-preserved g c =
       | else-calm_so_far w ↦ rw w.if-calm_so_far.false (w.calm_so_far-is ∙ w.if-calm_so_far.false)
     ] in
     record {
-      lent = still_by g.D.Directories skip.is_ready (skip.same ∙ same)
-          (skip.device ∙ (c.in_ok-entry.ensures.reader.read ∙ inv.lent.device)) (visited.counts.same.lent ∙ inv.lent.same.lent);
-      reads = λ b k. let held = (read b k (inv.held b k)).held in
-          omega (arith, (rw same at skip.counted) b k held, (read b k (inv.held b k)).paid, inv.reads b k);
-      held = λ b k. (rw same at skip.held) b k (read b k (inv.held b k)).held;
+      lent = still_by g.D.Directories (search rules) (search rules) (search rules)
+          (visited.counts.same.lent ∙ inv.lent.same.lent);
+      reads = λ b k. omega (arith, (read b k (inv.held b k)).paid, inv.reads b k);
+      held = λ b k. (read b k (inv.held b k)).held;
       flags = visited.counts.calm ∙ inv.flags;
       room = omega (arith, visited.ends, inv.room, queue_long visited.counts.same);
       extends = extends_on inv.extends visited.extends;
-      left = omega (arith, inv.left, fell, skip.left);
+      left = omega (arith, inv.left, fell);
       grown = λ x l.
           let now = ap (λ items. number_at items x) visited.counts.references in
-          omega (arith, inv.grown x l, counted.counts x l, now, bit-le (refers x e), fell, skip.left);
-      counted = omega (arith, inv.counted, fell, skip.left);
+          omega (arith, inv.grown x l, counted.counts x l, now, bit-le (refers x e), fell);
+      counted = omega (arith, inv.counted, fell);
       high = omega (arith, visited.ends, inv.high);
       same_result = λ b k.
-          rw (← (same_found b k).discovers old.kinds.now c.args.from)
-          (entry_step old.kinds.now c.args.from e (rest b) (rw (cut b k) at (inv.same_result b k)) same_result);
-      counts = λ b k. rw (visited.counts.references, visited.counts.named, ← (same_found b k).counts, ← (same_found b k).names)
+          entry_step old.kinds.now c.args.from e (rest b) (rw (cut b k) at (inv.same_result b k)) same_result;
+      counts = λ b k. rw (visited.counts.references, visited.counts.named)
           (entry_counted e (rest b) (rw (cut b k) at (inv.counts b k)) counted.counts counted.names);
-      calm_so_far = λ b k. calm_after c.loop-entry.calm_so_far current (bool_at c.loop-entry.lists.reached.now.items) _ e c.skip_after.result
-          c.loop-entry.count (rest b) _ (skips b k) skip.none right
-          (calm_step current c.loop-entry.count e (rest b) c.loop-entry.calm_so_far same_result right
-          (rw (cut b k) at (inv.calm_so_far b k)));
-      right_shape = let s = rw inv.lent.base at c.in_ok-entry.ensures.shape in
-          λ b k. (rw same at skip.shape) b k ∙ (s b k ∙ inv.right_shape b k);
+      calm_so_far = λ b k. calm_step current c.loop-entry.count e (rest b) c.loop-entry.calm_so_far same_result right
+          (rw (cut b k) at (inv.calm_so_far b k));
+      right_shape = let s = rw inv.lent.base at c.in_ok-entry.ensures.shape in λ b k. s b k ∙ inv.right_shape b k;
     }
 
 pub returns-clause-found : goal.returns-clause-found
