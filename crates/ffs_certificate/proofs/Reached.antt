@@ -2,8 +2,10 @@
 use Rattle.std.proofs.Common.{arith, ◌≡◌, ◌≢◌, ℕ, Bool, true, false, ◌||◌, ◌↔◌, Some, sym, ◌∙◌, inl, inr, zero, suc}
 use Rattle.std.proofs.{Common.{List, [], ◌∷◌}, lemmas.Bool.{both_ways, cases_Bool, and_parts, and_from, or_cases}}
 use Rattle.std.{proofs.lemmas.Bool.{or_right, false_from_ne_true, ne_eqb, eqb-true}, specs.List.list_any}
-use Rattle.ffs_volume.specs.{Disk.Search.some_below, Directories.Graph.{Graph, edge, reached, parent, is_lost}}
-use Rattle.ffs_volume.specs.Directories.Graph.{is_dead_in, none_or_dead, is_unref_dir_in, level, level_edge}
+use Rattle.ffs_volume.specs.{Disk.Search.some_below, Directories.Graph.{Graph, edge, reached, parent}}
+use Rattle.ffs_volume.specs.Directories.Connectivity.{is_lost}
+use Rattle.ffs_volume.specs.Directories.{Connectivity.{is_dead_in, none_or_dead, is_unref_dir_in}, Graph.level}
+use Rattle.ffs_volume.specs.Directories.Graph.{level_edge}
 use Rattle.ffs_volume.specs.Directories.{Graph.{first_index, test_at, is_naming_entry_at}, Roles.RoledEntry}
 use Rattle.ffs_volume.proofs.Graphs.{IsSane, AllReached, NoneDead, NoUnrefDir, IsParentEntry, NoExtraneous, LinksRight}
 use Rattle.ffs_volume.proofs.{Unreached.{IsLost, lost-true, parent-unreached}, SearchLaws.some_below-gives}

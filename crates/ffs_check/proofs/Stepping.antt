@@ -10,7 +10,7 @@ use Rattle.ffs_volume.specs.Directories.{Connectivity.connectivity_lines, Refere
 use Rattle.ffs_volume.specs.Directories.PathnameCheck.{continues_after_root, pathname_lines}
 use Rattle.ffs_volume.specs.Report.{Reads.{group_reads, line_reads, sweep_reads}, Whole.phase_lines}
 use Rattle.ffs_volume.specs.{Report.Whole.{summary_of, file_count, claimed_count}}
-use Rattle.ffs_volume.specs.{Laws.Geometry.IsAcceptedLayout, Report.VolumeReads.{later_reads}}
+use Rattle.ffs_volume.specs.{Laws.Geometry.IsAcceptedLayout, Costs.VolumeReads.later_reads}
 use Rattle.ffs_report.specs.{Progress.{Progress}, Paid.Paid}
 use Rattle.ffs_image.specs.Known.{ForBytes}
 use Rattle.ffs_report.specs.{PhaseOutcome.{ImageAfter}, declared.fault.RunFault.RunFault}

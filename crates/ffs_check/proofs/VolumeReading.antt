@@ -7,13 +7,13 @@ use Rattle.ffs_volume.specs.Blocks.{Owners.{Owner, owners_of}, Claims.{Claims, a
 use Rattle.ffs_volume.specs.Blocks.Claims.{after_step, after_steps, at_next_inode, is_open, no_claims, all_claims}
 use Rattle.ffs_volume.specs.{Laws.Geometry.IsAcceptedLayout, Report.{Memory.runs_limit, Reads.{phase_reads, table_blocks}}}
 use Rattle.ffs_volume.specs.Report.{Reads.{sweep_reads, group_reads}, Whole.{run_count, later_phase_lines, phase_lines}}
-use Rattle.ffs_volume.specs.Report.VolumeReads.{indirect_count, indirect_in_owners, indirect_in_steps, seen_indirect}
-use Rattle.ffs_volume.specs.Report.VolumeReads.{later_reads, rescan_reads, volume_phase_reads, volume_scan_reads}
+use Rattle.ffs_volume.specs.Costs.VolumeReads.{indirect_count, indirect_in_owners, indirect_in_steps, seen_indirect}
+use Rattle.ffs_volume.specs.Costs.VolumeReads.{later_reads, rescan_reads, volume_phase_reads, volume_scan_reads}
 use Rattle.ffs_volume.specs.{declared.{Layout.Layout, Step.{Step, TheVariants.{Gap, Run, Tail}}}, Disk.Search.some_below}
 use Rattle.ffs_volume.specs.{Disk.Superblock.Superblock, Messages.Kinds.of_tree}
 use Rattle.ffs_volume.specs.Directories.{Connectivity.connectivity_lines, ReferenceCheck.reference_lines}
 use Rattle.ffs_volume.specs.Directories.{PathnameCheck.{continues_after_root, pathname_lines}, Volumes.volume_of}
-use Rattle.ffs_volume.specs.Report.DirectoryReads.{directory_cost, sweep_costs, is_looked_at, phase2_cost}
+use Rattle.ffs_volume.specs.Costs.DirectoryReads.{directory_cost, sweep_costs, is_looked_at, phase2_cost}
 use Rattle.std.proofs.Math.Nat.{div-add-mod', mul-le-mul_left}
 use Rattle.ffs_survey.proofs.Costs.{costs_part}
 use Rattle.ffs_names.proofs.Limits.{costs_within, noted_within}

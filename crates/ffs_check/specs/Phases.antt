@@ -6,7 +6,7 @@ use Rattle.ffs_image.specs.Known.{ForBytes, IsContents}
 use Rattle.ffs_volume.specs.{declared.Layout.Layout, Blocks.Owners.owners_of}
 use Rattle.ffs_volume.specs.{Blocks.BlockCheck.{has_rescan, rescan_runs}}
 use Rattle.ffs_volume.specs.{Report.Reads.sweep_reads}
-use Rattle.ffs_volume.specs.Report.{Whole.{run_count}, VolumeReads.rescan_reads}
+use Rattle.ffs_volume.specs.{Report.Whole.run_count, Costs.VolumeReads.rescan_reads}
 use Rattle.ffs_workspace.specs.{declared.workspace.Workspace.Workspace, Holds.HoldsClaims, Ready.IsReady}
 use Rattle.ffs_claims.specs.Phases.{IsLeftByPhase1}
 

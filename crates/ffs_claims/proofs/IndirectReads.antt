@@ -4,8 +4,8 @@ use Rattle.std.proofs.Common.{◌≡◌, ℕ, zero, suc, ◌+◌, ◌-◌, ◌<�
 use Rattle.std.{proofs.{Common.{arith, refl, ap, ◌∙◌}}, specs.Int.div_ceil}
 use Rattle.ffs_volume.specs.Blocks.Claims.{Claims, after_owner, after_step, at_next_inode, is_open, no_claims}
 use Rattle.ffs_volume.specs.Blocks.{Inodes.{class_of, inode_of, inodes_of}, Owners.{owner_of, owners_of}}
-use Rattle.ffs_volume.specs.Report.VolumeReads.{indirect_count, indirect_in_owners, indirect_in_steps, seen_indirect}
-use Rattle.ffs_volume.specs.{Report.VolumeReads.volume_scan_reads, Laws.Geometry.IsAcceptedLayout}
+use Rattle.ffs_volume.specs.Costs.VolumeReads.{indirect_count, indirect_in_owners, indirect_in_steps, seen_indirect}
+use Rattle.ffs_volume.specs.{Costs.VolumeReads.volume_scan_reads, Laws.Geometry.IsAcceptedLayout}
 use Rattle.ffs_volume.specs.declared.{Class.TheVariants.Free, Layout.Layout, Step.{Step, TheVariants.{Gap}}}
 use Rattle.ffs_image.specs.Known.{ForBytes}
 use Rattle.ffs_walk.specs.{Counts.entered, HeldWords.word_step, Rests.steps_left, declared.walk.Walk.Walk}

@@ -14,7 +14,7 @@ use Rattle.ffs_volume.specs.{Encodings.ReplayCounts.{seen_run, replay_step_by_cu
 use Rattle.ffs_volume.specs.declared.{Layout.Layout, Step.{Step, TheVariants.{Run, Tail, Gap}}}
 use Rattle.ffs_volume.specs.Blocks.BlockCheck.{set_count, after_first, step_runs, runs_until_reported, steps_runs}
 use Rattle.ffs_volume.specs.Blocks.BlockCheck.{owners_runs, rescan_runs}
-use Rattle.ffs_volume.specs.Report.VolumeReads.{indirect_in_steps, seen_indirect}
+use Rattle.ffs_volume.specs.Costs.VolumeReads.{indirect_in_steps, seen_indirect}
 use Rattle.ffs_walk.specs.{Counts.entered, Keepings.run_taken}
 use Rattle.ffs_claims.{proofs.Reportings.{after_append, none_after}, specs.Rescan.{step_offers_again, offers_again}}
 use Rattle.ffs_claims.specs.RescanRuns.{indirect_again, steps_runs_again, step_runs_again}

@@ -5,7 +5,7 @@ use Rattle.ffs_volume.specs.Blocks.{BlockCheck.owner_lines, Inodes.{class_of, in
 use Rattle.ffs_volume.specs.Blocks.Claims.{Claims, after_offer, after_offers, after_owner, after_step, after_steps}
 use Rattle.ffs_volume.specs.Blocks.Claims.{at_next_inode, is_open, lines_of_offers, lines_of_steps, no_claims}
 use Rattle.ffs_volume.specs.{Blocks.Claims.step_lines, Disk.Areas.is_run_in_range}
-use Rattle.ffs_volume.specs.Report.{Memory.runs_without_claim, VolumeReads.indirect_in_steps}
+use Rattle.ffs_volume.specs.{Report.Memory.runs_without_claim, Costs.VolumeReads.indirect_in_steps}
 use Rattle.ffs_volume.specs.{Laws.{ClaimBounds.{used_bits, ClaimBound}, RunLengths.HasLength}, declared.Class.Class}
 use Rattle.ffs_volume.specs.declared.{Inode.Inode, Layout.Layout, Step.Step}
 use Rattle.ffs_image.specs.Device.{Device}

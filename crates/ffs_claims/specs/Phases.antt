@@ -10,7 +10,7 @@ use Rattle.ffs_maps.specs.Bits.{bits_of}
 use Rattle.ffs_volume.specs.Messages.Kinds.{Message, phase1b}
 use Rattle.ffs_volume.specs.{Directories.Volumes.marked_by_phase1_at, Encodings.{Kinds.kind_at, Links.start_at, Notes.note_at}}
 use Rattle.ffs_volume.specs.Report.{Memory.runs_limit, Reads.{sweep_reads, table_blocks}}
-use Rattle.ffs_volume.specs.Report.{VolumeReads.{indirect_count, volume_scan_reads}, Whole.run_count}
+use Rattle.ffs_volume.specs.{Costs.VolumeReads.{indirect_count, volume_scan_reads}, Report.Whole.run_count}
 use Rattle.ffs_image.specs.Known.{ForBytes, IsContents}
 use Rattle.ffs_workspace.specs.{declared.workspace.Workspace.Workspace, Found.{WithFresh, WithPhase1}}
 use Rattle.ffs_workspace.specs.Lengths.{has_unreported_dups}

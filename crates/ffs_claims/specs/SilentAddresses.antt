@@ -1,7 +1,7 @@
 -- What the words of an indirect block, and the direct addresses of an inode, claim with nothing to report.
 use Rattle.std.specs.Prelude.{◌≡◌, ℕ, ◌≤◌, ◌^◌, true, List, [], Option}
 use Rattle.ffs_volume.specs.Blocks.Claims.{Claims, after_step, after_steps, is_open, lines_of_steps, step_lines}
-use Rattle.ffs_volume.specs.{Laws.ClaimBounds.ClaimBound, Report.VolumeReads.indirect_in_steps, declared.Layout.Layout}
+use Rattle.ffs_volume.specs.{Laws.ClaimBounds.ClaimBound, Costs.VolumeReads.indirect_in_steps, declared.Layout.Layout}
 use Rattle.ffs_volume.specs.declared.Step.{Step}
 use Rattle.ffs_image.specs.Device.{ForContents}
 use Rattle.ffs_walk.specs.{Counts.EntersOnly, HeldWords.word_step, Rests.{SameFileBlocks, most_steps_left, steps_left}}

@@ -6,7 +6,8 @@ ghost use Rattle.ffs_image.specs.Known.{ForBytes};
 ghost use Rattle.ffs_report.specs.Progress.{progress};
 ghost use Rattle.ffs_volume.specs.{Directories.Volumes.volume_of, Messages.Kinds.of_tree};
 ghost use Rattle.ffs_workspace.specs.{Found.WithSurvey, Ready.KeepsWindows, Tables.IsTableSector};
-ghost use Rattle.ffs_connectivity.specs.{Lines.unref_dir_lines, Phase3.CanReportLost};
+ghost use Rattle.ffs_volume.specs.Directories.Connectivity.{unref_dir_lines};
+ghost use Rattle.ffs_connectivity.specs.Phase3.{CanReportLost};
 
 use ffs_image::Image;
 use ffs_layout::Geometry;

@@ -6,8 +6,8 @@ use Rattle.std.specs.List.{range_with_len}
 use mathlib.Core.Path.{fun_ext}
 use Rattle.ffs_volume.specs.{Encodings.{Kinds.kind_at, Lists.{bool_at, number_at}}, Directories.Graph.reached}
 use Rattle.ffs_volume.specs.Directories.{Parents.graph_of, Roles.{is_dir, roled_entries}, Volumes.marked_at}
-use Rattle.ffs_volume.specs.{Directories.{Volumes.volume_of, Calm.is_calm_by_parents}, Blocks.Inodes.inodes_of}
-use Rattle.ffs_volume.specs.Directories.Calm.{is_calm_directory, kinds_in, marks_in, parent_number, is_right_shape}
+use Rattle.ffs_volume.specs.{Directories.Volumes.volume_of, Costs.Calm.is_calm_by_parents, Blocks.Inodes.inodes_of}
+use Rattle.ffs_volume.specs.Costs.Calm.{is_calm_directory, kinds_in, marks_in, parent_number, is_right_shape}
 use Rattle.ffs_survey.specs.{Calm.EachCalmIsFlagged, Survey.IsSurvey}
 use Rattle.ffs_names.{specs.Readers.{Base, dir_entries, dir_right_shape}, proofs.DirLaws.kind_dirs}
 

@@ -4,7 +4,7 @@ use Rattle.std.proofs.lemmas.Bool.Decides.{nat_tests}
 use Rattle.ffs_volume.specs.{declared.{Inode.Inode, Layout.Layout}, Blocks.{Inodes.inode_of, Steps.steps_of}}
 use Rattle.ffs_volume.specs.{Directories.{Roles.is_dir, Volumes.volume_of}, Encodings.Replay.{cut_at, fresh_replay}}
 use Rattle.ffs_volume.specs.Encodings.{ReplayCounts.replayed_runs, Notes.{first_noted, note_at}}
-use Rattle.ffs_volume.specs.Report.DirectoryReads.{costs_all, directory_cost, directory_runs, inode_reads, sweep_cost}
+use Rattle.ffs_volume.specs.Costs.DirectoryReads.{costs_all, directory_cost, directory_runs, inode_reads, sweep_cost}
 
 -- a directory takes its inode and its Runs
 pub cost_is : (v : Layout) (b : List ℕ) (d : ℕ) → is_dir (volume_of v b) d ≡ true →

@@ -7,8 +7,8 @@ use Rattle.ffs_volume.specs.Blocks.{Inodes.{inode_of, is_directory, type_of}, St
 use Rattle.ffs_volume.specs.Directories.{Entries.{bytes_read, chunks_of, has_gap}, PathnameCheck.are_sound}
 use Rattle.ffs_volume.specs.Directories.{Roles.{is_dir, roled_chunk, roled_entries}, Volumes.chunk_source_of}
 use Rattle.ffs_volume.specs.{Directories.Volumes.{is_inode_number, volume_of, volume_with}, Disk.Areas.is_run_in_range}
-use Rattle.ffs_volume.specs.Encodings.{Kinds.{kind_at, dir_at}, Replay.{cut_at, fresh_replay, replayed_steps}}
-use Rattle.ffs_volume.specs.{Laws.Geometry.IsAcceptedLayout, Directories.Calm.{is_right_shape, is_right_size}}
+use Rattle.ffs_volume.specs.Encodings.{Kinds.{kind_at, is_dir_at}, Replay.{cut_at, fresh_replay, replayed_steps}}
+use Rattle.ffs_volume.specs.{Laws.Geometry.IsAcceptedLayout, Costs.Calm.{is_right_shape, is_right_size}}
 use Rattle.ffs_survey.proofs.SurveyLaws.{dirs_of_kinds}
 use Rattle.ffs_names.specs.RunCursors.{reading_by}
 
@@ -52,7 +52,7 @@ dir_seen v b d i cut g n e c = rw (e, c, replay_at v b d g n) refl
 
 -- kinds say which inodes are directories
 pub kind_dirs : (v : Layout) (b kinds : List ℕ) (x : ℕ) → slice_index kinds x ≡ kind_at v b x →
-    dir_at kinds x ≡ is_dir (volume_of v b) x
+    is_dir_at kinds x ≡ is_dir (volume_of v b) x
 unfolding kind_at
 kind_dirs v b kinds x h = dirs_of_kinds v b kinds x h
 

@@ -1,8 +1,8 @@
 -- All directories take no more reads than a sweep.
 use Rattle.std.proofs.Common.{◌≤◌, ◌*◌, ℕ, List, arith}
 use Rattle.ffs_volume.{proofs.RunBounds.runs_bounded, specs.{Laws.Geometry.IsAcceptedLayout, Report.Reads.sweep_reads}}
-use Rattle.ffs_volume.specs.{declared.Layout.Layout, Report.DirectoryReads.{directories_cost, sweep_costs}}
-use Rattle.ffs_volume.specs.{Blocks.Inodes.inodes_of, Report.DirectoryReads.sweep_cost}
+use Rattle.ffs_volume.specs.{declared.Layout.Layout, Costs.DirectoryReads.{directories_cost, sweep_costs}}
+use Rattle.ffs_volume.specs.{Blocks.Inodes.inodes_of, Costs.DirectoryReads.sweep_cost}
 use Rattle.ffs_survey.proofs.Costs.{costs_part}
 use Rattle.ffs_names.{specs.Noting.{has_child, parents_sweep_cost}, proofs.{DirCosts.noted_all_within, RunSums.costs_bounded}}
 

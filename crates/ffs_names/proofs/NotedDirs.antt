@@ -6,8 +6,8 @@ use Rattle.ffs_volume.specs.{Blocks.{Inodes.inode_of, Steps.steps_of}, Directori
 use Rattle.ffs_volume.specs.Directories.{PathnameCheck.are_sound, Roles.{is_dir, roled_chunk, roled_entries}}
 use Rattle.ffs_volume.specs.{Directories.Volumes.volume_of, Encodings.Replay.{fresh_replay, replayed_steps}}
 use Rattle.ffs_volume.specs.{Encodings.{ReplayCounts.replayed_runs, Notes.cut_in}, Laws.Geometry.IsAcceptedLayout}
-use Rattle.ffs_volume.specs.{Encodings.Notes.{first_noted, note_at}, Report.DirectoryReads.directory_runs}
-use Rattle.ffs_volume.specs.Directories.Calm.{is_right_shape, is_right_size}
+use Rattle.ffs_volume.specs.{Encodings.Notes.{first_noted, note_at}, Costs.DirectoryReads.directory_runs}
+use Rattle.ffs_volume.specs.Costs.Calm.{is_right_shape, is_right_size}
 use Rattle.ffs_workspace.proofs.NoteLaws.{cut_is_noted, address_is_noted, address_is_whole, IsOneChunkAt}
 use Rattle.ffs_workspace.specs.{Tables.TableHolds, declared.{table.Table.Table, workspace.Windows.Windows}}
 use Rattle.ffs_names.specs.{OneChunk.one_chunk_at, Readers.IsReaderReady, Readings.chunks_in}

@@ -8,7 +8,7 @@ use Rattle.ffs_volume.specs.Blocks.{Inodes.class_of, Steps.{data_step, steps_at,
 use Rattle.ffs_volume.specs.Directories.{Entries.{bytes_read, chunk_of, chunks_of, has_gap, run_chunks}, PathnameCheck.are_sound}
 use Rattle.ffs_volume.specs.{Directories.Roles.{RoledEntry, roled_chunk}, Disk.Areas.is_run_in_range}
 use Rattle.ffs_volume.specs.{Laws.Geometry.IsAcceptedLayout, Encodings.Replay.{fresh_replay, replayed_steps}}
-use Rattle.ffs_volume.specs.{Encodings.ReplayCounts.replayed_runs, Directories.Calm.is_right_size}
+use Rattle.ffs_volume.specs.{Encodings.ReplayCounts.replayed_runs, Costs.Calm.is_right_size}
 use Rattle.ffs_volume.specs.Disk.Numbers.{piece}
 use Rattle.ffs_walk.{proofs.Counted.{top_unread}, specs.{Rests.{IsAtTop}, Keepings.replay_in}}
 use Rattle.ffs_workspace.proofs.NoteLaws.{IsOneChunkAt}

@@ -5,8 +5,8 @@ use Rattle.std.proofs.lemmas.Bool.{cases_lt, Decides.nat_tests}
 use Rattle.ffs_volume.proofs.{CutLaws.cut_is, OwnerLaws.before_next, ReplayLaws.replay_is_runs}
 use Rattle.ffs_volume.specs.Blocks.{Claims.{Claims, all_claims}, KeptSteps.claims_before, Owners.{owner_of, owners_of}}
 use Rattle.ffs_volume.specs.{Directories.{Roles.is_dir, Volumes.{is_inode_number, volume_of}}, Report.Whole.run_count}
-use Rattle.ffs_volume.specs.{Laws.Geometry.IsAcceptedLayout, declared.Layout.Layout, Report.DirectoryReads.costs_all}
-use Rattle.ffs_volume.specs.Report.DirectoryReads.{directories_cost, directory_cost}
+use Rattle.ffs_volume.specs.{Laws.Geometry.IsAcceptedLayout, declared.Layout.Layout, Costs.DirectoryReads.costs_all}
+use Rattle.ffs_volume.specs.Costs.DirectoryReads.{directories_cost, directory_cost}
 use Rattle.ffs_names.{specs.SeenRuns.RunsAreSeen, proofs.{DirCosts.{cost_is, cost_none}, DirLaws.dir_is}}
 
 pub runs_seen_by : RunsAreSeen

@@ -6,7 +6,7 @@ use Rattle.ffs_volume.{proofs.Reading.{entries_next, entries_end}, specs.declare
 use Rattle.ffs_volume.specs.{declared.Order.Order, Directories.Entries.{Entry, Chunk, chunk_of, entry_at, entries_from}}
 use Rattle.ffs_volume.specs.{Directories.{Entries.{has_gap, is_sound}, PathnameCheck.are_sound}, Blocks.Steps.steps_of}
 use Rattle.ffs_volume.specs.Encodings.{Replay.{fresh_replay, replayed_steps}, ReplayCounts.replayed_runs}
-use Rattle.ffs_volume.specs.Directories.Calm.{is_right_size}
+use Rattle.ffs_volume.specs.Costs.Calm.{is_right_size}
 use Rattle.ffs_walk.specs.declared.{blocks.Blocks.Blocks, window.Window.Window}
 use Rattle.ffs_names.specs.{Costs.{HoldsReading, to_read}, Readings.{chunks_in, gap_left, rest, runs_left}}
 use Rattle.ffs_names.specs.Shapes.{BeginsDirectory, HasEnded, fills, has_right_shape}

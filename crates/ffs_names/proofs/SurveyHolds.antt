@@ -5,7 +5,7 @@ use Rattle.std.specs.Prelude.{Result, Ok, Err, OnOk, OnErr}
 use Rattle.ffs_image.specs.Known.{ForBytes}
 use Rattle.ffs_volume.specs.{declared.Layout.Layout, Encodings.Kinds.kind_at, Directories.Parents.graph_of}
 use Rattle.ffs_volume.specs.Directories.{Roles.roled_entries, Volumes.{volume_of, volume_with}}
-use Rattle.ffs_volume.specs.{Encodings.Links.start_at, Blocks.Inodes.inodes_of, Directories.Calm.is_right_directory}
+use Rattle.ffs_volume.specs.{Encodings.Links.start_at, Blocks.Inodes.inodes_of, Costs.Calm.is_right_directory}
 use Rattle.ffs_workspace.specs.Holds.{HoldsClaims, HoldsReferences, HoldsTree}
 use Rattle.ffs_workspace.{proofs.Leaving.counts_surveyed, specs.Leaves.LeavesBlockCheck}
 use Rattle.ffs_workspace.specs.declared.workspace.Workspace.{Workspace}

@@ -1,6 +1,6 @@
 -- Directories of which nothing can be reported, by the bytes of an image, and that a survey flags them.
 use Rattle.std.specs.Prelude.{◌≡◌, ℕ, true, List}
-use Rattle.ffs_volume.specs.{declared.Layout.Layout, Encodings.Lists.bool_at, Directories.Calm.is_calm_directory}
+use Rattle.ffs_volume.specs.{declared.Layout.Layout, Encodings.Lists.bool_at, Costs.Calm.is_calm_directory}
 use Rattle.ffs_workspace.specs.declared.workspace.Workspace.{Workspace}
 
 -- each of them has a flag

@@ -6,7 +6,7 @@ use Rattle.ffs_volume.specs.declared.{Class.Class, Inode.Inode, Layout.Layout, S
 use Rattle.ffs_volume.specs.{Blocks.{Inodes.class_of}, Directories.{Roles.roled_chunk}}
 use Rattle.ffs_volume.specs.{Directories.{Roles.roled_entries, Volumes.volume_of}}
 use Rattle.ffs_volume.specs.{Report.Reads.sweep_reads}
-use Rattle.ffs_volume.specs.Report.DirectoryReads.{sweep_cost, sweep_costs}
+use Rattle.ffs_volume.specs.Costs.DirectoryReads.{sweep_cost, sweep_costs}
 use Rattle.ffs_layout.specs.declared.geometry.Geometry.{Geometry}
 use Rattle.ffs_walk.specs.{Counts.{AreHeld, entered, unread}, declared.{blocks.Blocks.Blocks, window.Window.Window}}
 use Rattle.ffs_names.specs.{Readings.{rest, runs_after, runs_left}}

@@ -4,7 +4,7 @@ use Rattle.std.specs.{Prelude.length, Borrow.GName}
 use Rattle.ffs_image.specs.Device.{Device}
 use Rattle.ffs_volume.specs.{declared.Layout.Layout, Directories.Roles.{RoledEntry, is_dir, roled_entries}}
 use Rattle.ffs_volume.specs.{Directories.Volumes.volume_of, Encodings.{Kinds.kind_at, Notes.note_at}}
-use Rattle.ffs_volume.specs.{Blocks.Inodes.inodes_of, Directories.Calm.is_right_directory}
+use Rattle.ffs_volume.specs.{Blocks.Inodes.inodes_of, Costs.Calm.is_right_directory}
 use Rattle.ffs_workspace.specs.{Tables.IsTableOf, declared.workspace.Windows.Windows}
 use Rattle.ffs_walk.specs.Windows.{BlocksHold, WindowHolds}
 

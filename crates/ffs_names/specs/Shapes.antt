@@ -5,7 +5,7 @@ use Rattle.ffs_volume.specs.{declared.{Class.Class, Layout.Layout, Inode.Inode},
 use Rattle.ffs_volume.specs.{Blocks.Steps.steps_of, declared.constants.TheConstants.DIRBLKSIZ}
 use Rattle.ffs_volume.specs.Directories.{Entries.{entries_from, entry_at, has_gap}, Roles.roled_chunk}
 use Rattle.ffs_volume.specs.{Directories.PathnameCheck.are_sound, Encodings.Replay.{fresh_replay, replayed_steps}}
-use Rattle.ffs_volume.specs.{Encodings.ReplayCounts.replayed_runs, Directories.Calm.is_right_size}
+use Rattle.ffs_volume.specs.{Encodings.ReplayCounts.replayed_runs, Costs.Calm.is_right_size}
 use Rattle.ffs_layout.specs.declared.geometry.Geometry.{Geometry}
 use Rattle.ffs_walk.specs.declared.{blocks.Blocks.Blocks, window.Window.Window}
 use Rattle.ffs_survey.specs.{declared.entry_head.EntryHead.EntryHead, Reading.{roled_of, SkipsEmpty}}

@@ -4,10 +4,10 @@ use Rattle.ffs_workspace.specs.Moments.{WorkMoment}
 use Rattle.ffs_image.specs.{Device.Device, Reads.ReadAfter, declared.image.ImageFault.ImageFault}
 use Rattle.ffs_volume.specs.{declared.Layout.Layout, Directories.{Roles.roled_entries, Volumes.volume_of}}
 use Rattle.ffs_survey.specs.Calm.{AreCalm}
-use Rattle.ffs_volume.specs.{Directories.Calm.is_right_directory, Encodings.Lists.bool_at}
+use Rattle.ffs_volume.specs.{Costs.Calm.is_right_directory, Encodings.Lists.bool_at}
 use Rattle.ffs_workspace.specs.{declared.workspace.Workspace.Workspace, Leaves.LeavesBlockCheck, Ready.IsReady}
 use Rattle.ffs_workspace.specs.Holds.{HoldsClaims, HoldsReferences, HoldsSurvey}
-use Rattle.ffs_volume.specs.Report.DirectoryReads.{sweep_costs}
+use Rattle.ffs_volume.specs.Costs.DirectoryReads.{sweep_costs}
 use Rattle.ffs_names.specs.{CalmDirs.FlagsEachCalm}
 
 -- what a survey leaves: the workspace is ready for the next call, `queue` is zero, so that it notes no

@@ -3,7 +3,7 @@
 ghost use Rattle.std.specs.Prelude.{◌≡◌, ◌+◌, ◌-◌, ◌*◌, ◌/◌, ◌≤◌, ◌^◌, ℕ, List, true, false, IfErr, IfOk, MatchBool, OnOk, OnErr, if◌then◌else◌};
 ghost use Rattle.ffs_image.specs.{Device.ForContents, Reads.ReadsAtMostOnce};
 ghost use Rattle.ffs_names.specs.{OneChunk.{has_chunk_at, one_chunk_at as one_chunk}, Windows.{CanWalkDir, CanReadChunks}};
-ghost use Rattle.ffs_volume.specs.{Directories.Calm.is_right_size, declared.constants.TheConstants.DIRBLKSIZ};
+ghost use Rattle.ffs_volume.specs.{Costs.Calm.is_right_size, declared.constants.TheConstants.DIRBLKSIZ};
 ghost use Rattle.ffs_volume.specs.declared.constants.TheConstants.{DEV_BSIZE, DIRENT_HEADER};
 ghost use Rattle.ffs_survey.specs.Costs.{TakesReads};
 ghost use Rattle.ffs_names.specs.Readings.{IsEnded, StopsChunks};

@@ -32,7 +32,7 @@ impl<I: Image> Directories for DirectoryReader<'_, I> {
     ghost use Rattle.ffs_names.specs.Shapes.{has_right_shape, HasEnded};
     ghost use Rattle.ffs_names.specs.Entering.{to_come, most_to_come, last_name};
     ghost use Rattle.ffs_names.specs.Costs.{reads_for_entries, HoldsEntries};
-    ghost use Rattle.ffs_volume.specs.Report.DirectoryReads.{sweep_cost};
+    ghost use Rattle.ffs_volume.specs.Costs.DirectoryReads.{sweep_cost};
 
     ghost Base = { ReaderBase };
 

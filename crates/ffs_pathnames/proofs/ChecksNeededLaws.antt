@@ -4,8 +4,8 @@ use Rattle.std.proofs.Common.{arith, inl, inr, refl, slice_index, length, get_or
 use Rattle.std.proofs.lemmas.{Bool.{both_ways, cases_Bool, true_from_ne_false, Decides.nat_tests}, List.get_or_past}
 use Rattle.ffs_volume.specs.{declared.Layout.Layout, Encodings.Lists.bool_at, Directories.PathnameCheck.is_sized_dir}
 use Rattle.ffs_volume.specs.Directories.{Roles.{RoledEntry, Volume}, Volumes.volume_of}
-use Rattle.ffs_volume.{proofs.SearchLaws.some_below-from, specs.Directories.Calm.is_calm_directory}
-use Rattle.ffs_volume.specs.Report.DirectoryReads.{directory_cost, sweep_costs, is_looked_at, places_cost, costs_below}
+use Rattle.ffs_volume.{proofs.SearchLaws.some_below-from, specs.Costs.Calm.is_calm_directory}
+use Rattle.ffs_volume.specs.Costs.DirectoryReads.{directory_cost, sweep_costs, is_looked_at, places_cost, costs_below}
 use Rattle.ffs_workspace.specs.{declared.workspace.Workspace.Workspace, Holds.HoldsClaims, Leaves.LeavesBlockCheck}
 use Rattle.ffs_names.specs.CalmDirs.{FlagsEachCalm}
 use Rattle.ffs_pathnames.specs.{Before.{IsNonePassed, needs_check}, ChecksNeeded.{ChecksLookedAt, KeepsFlags}}

@@ -19,9 +19,9 @@ use Rattle.ffs_volume.{specs.declared.verdict.DotDefects.DotDefects, proofs.Verd
 use Rattle.ffs_volume.specs.Directories.Roles.{nth_entry, start_entry, Volume, RoledEntry, is_dir, is_suspect, is_plain}
 use Rattle.ffs_volume.specs.Directories.Roles.{is_two_dots, role_of, roled_from, roled_chunk, roled_entries}
 use Rattle.ffs_volume.specs.Encodings.Kinds.{is_empty_dir_kind, is_allocated_kind, is_unknown_kind, type_of_kind}
-use Rattle.ffs_volume.specs.Encodings.{Kinds.dir_at, Replay.{cut_at, fresh_replay, replayed_steps}}
-use Rattle.ffs_volume.specs.Directories.Calm.{is_right_size, is_right_shape, are_calm, CurrentDir, is_calm_kind}
-use Rattle.ffs_volume.specs.Directories.Calm.{is_calm_plain, is_calm_role, is_calm_entry, reached_after}
+use Rattle.ffs_volume.specs.Encodings.{Kinds.is_dir_at, Replay.{cut_at, fresh_replay, replayed_steps}}
+use Rattle.ffs_volume.specs.Costs.Calm.{is_right_size, is_right_shape, are_calm, CurrentDir, is_calm_kind}
+use Rattle.ffs_volume.specs.Costs.Calm.{is_calm_plain, is_calm_role, is_calm_entry, reached_after}
 use Rattle.ffs_names.{specs.{RunCursors.reading_by, Surveys.FlagsOnlyCalm}, proofs.DirLaws.kind_dirs}
 use Rattle.ffs_workspace.specs.{declared.workspace.Workspace.Workspace, Lengths.IsFor, Holds.{bool_at, HoldsClaims}}
 use Rattle.ffs_workspace.{specs.Holds.HoldsSurvey, proofs.KindLaws.{reports_at, suspect_is, type_is}}
@@ -33,7 +33,7 @@ use Rattle.ffs_names.proofs.DirLaws as dirs
 -- ---- what the lists show
 record Shown (vol : Volume) (kinds : List ℕ) (marked : List Bool) (parents : List ℕ) : Type 0 where
   count : vol.count ≡ length kinds
-  dirs : (x : ℕ) → dir_at kinds x ≡ is_dir vol x
+  dirs : (x : ℕ) → is_dir_at kinds x ≡ is_dir vol x
   allocated : (x : ℕ) → is_allocated (vol.class x) ≡ is_allocated_kind (slice_index kinds x)
   unknown : (x : ℕ) → is_unknown (vol.class x) ≡ is_unknown_kind (slice_index kinds x)
   suspect : (x : ℕ) → is_suspect vol x ≡ (bool_at marked x || is_empty_dir_kind (slice_index kinds x))
@@ -139,7 +139,7 @@ calm_quiet vol s parents flags (e ∷ es) reached i stamps sh c mine seen =
     after : (x : ℕ) → x < vol.count → (slice_index (after_look vol s.dir stamps e) x == s.dir) ≡ true →
         reached_after s.kinds reached e x ≡ true
     after x l t = stamp_reached stamps e.entry.number x s.dir (is_plain e.role) (belongs vol s.dir e.entry.number)
-        (dir_at s.kinds x) (reached x)
+        (is_dir_at s.kinds x) (reached x)
         (λ b z. sh.dirs x ∙ (ap (is_dir vol) z ∙ (and_parts (is_dir vol e.entry.number) _ b).0)) (seen x l) t
 
 -- ---- the first two entries

@@ -1,7 +1,7 @@
 -- Which directories need a check in phase 2, by the bytes of the image, and that a call takes away none of the
 -- flags by which others need none.
 use Rattle.std.specs.Prelude.{◌≡◌, ℕ, true, false, List}
-use Rattle.ffs_volume.specs.{declared.Layout.Layout, Encodings.Lists.bool_at, Report.DirectoryReads.is_looked_at}
+use Rattle.ffs_volume.specs.{declared.Layout.Layout, Encodings.Lists.bool_at, Costs.DirectoryReads.is_looked_at}
 use Rattle.ffs_workspace.specs.declared.workspace.Workspace.{Workspace}
 use Rattle.ffs_pathnames.specs.Before.{needs_check}
 

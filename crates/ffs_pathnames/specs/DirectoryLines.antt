@@ -6,8 +6,8 @@ use Rattle.ffs_report.specs.declared.fault.RunFault.{RunFault}
 use Rattle.ffs_volume.specs.{declared.Layout.Layout, Directories.{PathnameCheck.dir_header_lines, Roles.roled_entries}}
 use Rattle.ffs_volume.specs.{Directories.{Roles.Volume, Volumes.volume_of}, Report.Reads.{line_reads, path_reads}}
 use Rattle.ffs_volume.specs.{Report.Reads.sweep_reads, Messages.Kinds.{TreeMessage, of_tree}}
-use Rattle.ffs_volume.specs.Report.DirectoryReads.{directories_cost, directory_cost, directory_runs, looks_cost}
-use Rattle.ffs_volume.specs.{Report.DirectoryReads.places_cost, Encodings.Places.AreNoted}
+use Rattle.ffs_volume.specs.Costs.DirectoryReads.{directories_cost, directory_cost, directory_runs, looks_cost}
+use Rattle.ffs_volume.specs.{Costs.DirectoryReads.places_cost, Encodings.Places.AreNoted}
 use Rattle.ffs_paths.specs.declared.kept_parent.KeptParent.{KeptParent}
 use Rattle.ffs_workspace.specs.{Holds.{HoldsClaims, HoldsSurvey}, Leaves.LeavesFindings, Ready.CanRead}
 use Rattle.ffs_pathnames.specs.{ChecksNeeded.ChecksLookedAt, Before.IsBefore, Gathers.passed_of, LineReads.again_reads}

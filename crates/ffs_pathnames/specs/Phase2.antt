@@ -3,7 +3,8 @@ use Rattle.std.specs.Prelude.{◌≡◌, ◌⊎◌, ◌≤◌, ◌+◌, ◌*◌,
 use Rattle.ffs_image.specs.Device.{Device}
 use Rattle.ffs_volume.specs.{declared.Layout.Layout, Directories.PathnameCheck.{continues_after_root, pathname_lines}}
 use Rattle.ffs_volume.specs.{Directories.Volumes.volume_of, Messages.Kinds.{phase2}, Report.Reads.line_reads}
-use Rattle.ffs_volume.specs.Report.{Reads.pathname_reads, DirectoryReads.{directories_cost, sweep_costs, phase2_cost}}
+use Rattle.ffs_volume.specs.{Report.Reads.pathname_reads, Costs.DirectoryReads.{directories_cost, sweep_costs}}
+use Rattle.ffs_volume.specs.Costs.DirectoryReads.{phase2_cost}
 use Rattle.ffs_volume.specs.Report.Whole.{phase2_messages}
 use Rattle.ffs_report.specs.{Progress.{Progress, Said}, declared.fault.RunFault.RunFault}
 use Rattle.ffs_image.specs.Known.{ForBytes}

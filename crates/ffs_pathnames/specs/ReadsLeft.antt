@@ -3,7 +3,7 @@ use Rattle.std.specs.Prelude.{ℕ, ◌+◌, ◌*◌, ◌≤◌, List, Result, On
 use Rattle.ffs_image.specs.{Device.Device, declared.image.ImageFault.ImageFault}
 use Rattle.ffs_volume.specs.{declared.Layout.Layout, Directories.Volumes.volume_of}
 use Rattle.ffs_workspace.specs.declared.workspace.Workspace.{Workspace}
-use Rattle.ffs_volume.specs.Report.DirectoryReads.{directory_cost, directory_runs}
+use Rattle.ffs_volume.specs.Costs.DirectoryReads.{directory_cost, directory_runs}
 use Rattle.ffs_pathnames.specs.{declared.look.Directory.Directory, DirectoryContext.{DirectoryContext, KnowsDirectory}}
 use Rattle.ffs_pathnames.specs.{Before.IsBeforeNoted, Gathers.passed_of, PassedRight.RemembersBefore}
 

@@ -3,7 +3,7 @@ use Rattle.std.specs.Prelude.{◌≡◌, ℕ, suc, ◌*◌, List}
 use Rattle.ffs_image.specs.Device.{Device}
 use Rattle.ffs_volume.specs.{declared.Layout.Layout, Directories.{PathnameCheck.directory_lines, Volumes.volume_of}}
 use Rattle.ffs_volume.specs.{Directories.PathnameCheck.{dir_header_lines, sized_dir_lines}, Messages.Kinds.TreeMessage}
-use Rattle.ffs_volume.specs.Report.DirectoryReads.{directory_cost, directory_runs}
+use Rattle.ffs_volume.specs.Costs.DirectoryReads.{directory_cost, directory_runs}
 use Rattle.ffs_workspace.specs.declared.workspace.Workspace.{Workspace}
 use Rattle.ffs_pathnames.specs.{Before.IsBeforeNoted, Begins.IsDirectoryBegun, ChecksNeeded.KeepsFlags, Gathers.passed_of}
 use Rattle.ffs_pathnames.specs.{PassedNames.{after_directory, directory_reported}, PassedRight.RemembersBefore}

@@ -3,7 +3,7 @@
 //! that belong to the directory. `examine` reads the inode, and looks at the chunks within a limit.
 ghost use Rattle.std.specs.Prelude.{◌≡◌, ◌+◌, ◌≤◌, ◌&&◌, true, false, List, [], ◌∷◌};
 ghost use Rattle.ffs_workspace.specs.Moments.{work_moment};
-ghost use Rattle.ffs_volume.specs.{Report.DirectoryReads.{directory_cost, directory_runs}, declared.Order.Order};
+ghost use Rattle.ffs_volume.specs.{Costs.DirectoryReads.{directory_cost, directory_runs}, declared.Order.Order};
 ghost use Rattle.ffs_volume.specs.{declared.Role.Role, Directories.{Entries.{Chunk, chunk_of, is_sound}, Roles.Volume}};
 ghost use Rattle.ffs_image.specs.Known.{ForBytes};
 ghost use Rattle.ffs_pathnames.specs.{DirectoryContext.{DirectoryContext, KnowsDirectory}};

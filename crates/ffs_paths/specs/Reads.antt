@@ -5,7 +5,8 @@ use Rattle.ffs_image.specs.{Device.{Device, ForContents}, Known.IsContents, Read
 use Rattle.ffs_volume.specs.declared.{constants.TheConstants.MAXPATHLEN, Layout.Layout}
 use Rattle.ffs_volume.specs.Directories.{Graph.{Graph, level}, Parents.graph_of, Volumes.volume_of}
 use Rattle.ffs_workspace.specs.declared.workspace.Workspace.{Workspace}
-use Rattle.ffs_volume.specs.{Encodings.Places.{AreNoted, IsNoted, part_size, part_in}, Report.DirectoryReads.directory_cost}
+use Rattle.ffs_volume.specs.Encodings.Places.{AreNoted, IsNoted, part_size, part_in}
+use Rattle.ffs_volume.specs.Costs.DirectoryReads.{directory_cost}
 use Rattle.ffs_workspace.specs.{Found.WithSurvey, Moments.WorkMoment, Ready.CanRead}
 use Rattle.ffs_workspace.specs.Holds.{bool_at, HoldsClaims, HoldsSurvey}
 

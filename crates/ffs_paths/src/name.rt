@@ -5,7 +5,7 @@ ghost use Rattle.ffs_workspace.specs.Moments.{work_moment};
 ghost use Rattle.ffs_image.specs.Known.{ForBytes};
 ghost use Rattle.ffs_volume.specs.Directories.{Entries.entries_of, Roles.{is_dir, is_plain, role_of, roled_from}};
 ghost use Rattle.ffs_volume.specs.{Directories.Volumes.volume_of, Encodings.Places.entries_in_chunks};
-ghost use Rattle.ffs_volume.specs.{declared.constants.TheConstants.DIRBLKSIZ, Report.DirectoryReads.directory_cost};
+ghost use Rattle.ffs_volume.specs.{declared.constants.TheConstants.DIRBLKSIZ, Costs.DirectoryReads.directory_cost};
 ghost use Rattle.ffs_layout.specs.Entry.{entry_value};
 ghost use Rattle.ffs_workspace.specs.Found.{WithClaims};
 ghost use Rattle.ffs_paths.specs.{Climbing.{FindsFirstName, FindsName, FindsNoted, IsNameIn}, NameTexts.name_bytes};

@@ -7,16 +7,16 @@ use Rattle.ffs_volume.specs.Directories.{Graph.{Graph, is_naming_entry}, Roles.{
 use Rattle.ffs_volume.specs.declared.Role.TheVariants.{Empty, Dot, Dotdot, Extra, Plain}
 use Rattle.ffs_volume.{proofs.SearchLaws.first_below-is_none, specs.declared.Role.Role}
 use Rattle.ffs_survey.specs.Calm.{dir_by, AreCalm, IsCalm}
-use Rattle.ffs_volume.specs.Directories.Calm.{CurrentDir, is_calm_role, is_calm_entry, reached_after, are_calm}
+use Rattle.ffs_volume.specs.Costs.Calm.{CurrentDir, is_calm_role, is_calm_entry, reached_after, are_calm}
 use Rattle.ffs_survey.specs.{Calm.IsFlagged, Discover.{from_entries, IsFrontier, LevelsKnown}}
 use Rattle.ffs_survey.{specs.Survey.{bool_at, number_at}, proofs.Frontiers.frontier_within}
 use Rattle.ffs_survey.proofs.Remaining.{nothing, SameResult}
-use Rattle.ffs_volume.specs.Encodings.Kinds.{dir_at}
+use Rattle.ffs_volume.specs.Encodings.Kinds.{is_dir_at}
 use Rattle.ffs_survey.specs.Discover.{Found, IsRead}
 
 -- a calm plain entry that names a directory is before any other that reaches it
 pub calm_names_new : (s : CurrentDir) (reached : ℕ → Bool) (i x : ℕ) (role : Role) (number kind : ℕ) →
-    is_calm_role s reached i role number kind ≡ true → dir_at s.kinds x ≡ true → (is_plain role && (number == x)) ≡ true
+    is_calm_role s reached i role number kind ≡ true → is_dir_at s.kinds x ≡ true → (is_plain role && (number == x)) ≡ true
     → reached x ≡ false
 calm_names_new s reached i x Empty number kind c d n = absurd (cc)
 calm_names_new s reached i x Dot number kind c d n = absurd (cc)
@@ -26,7 +26,7 @@ calm_names_new s reached i x Plain number kind c d n = grind arith
 
 -- directories that calm entries name weren't reached before them
 pub calm_new : (s : CurrentDir) (reached : ℕ → Bool) (i x : ℕ) (es : List RoledEntry) → are_calm s reached i es ≡ true →
-    dir_at s.kinds x ≡ true → list_any (is_naming_entry x) es ≡ true → reached x ≡ false
+    is_dir_at s.kinds x ≡ true → list_any (is_naming_entry x) es ≡ true → reached x ≡ false
 calm_new s reached i x [] c d n = absurd (cc)
 calm_new s reached i x (e ∷ es) c d n =
     let p = and_parts (is_calm_entry s reached i e) _ c in

@@ -8,7 +8,7 @@ use Rattle.ffs_volume.specs.Directories.{Graph.edge, Roles.{RoledEntry, is_plain
 use Rattle.ffs_survey.specs.Discover.{bit, from_dirs, from_entries, is_unreached_dir, occurrences}
 use Rattle.ffs_survey.specs.{Discover.unset, Survey.{bool_at, graph_with, number_at}}
 use Rattle.ffs_survey.proofs.Remaining.{nothing, SameResult}
-use Rattle.ffs_volume.specs.Encodings.Kinds.{dir_at}
+use Rattle.ffs_volume.specs.Encodings.Kinds.{is_dir_at}
 
 -- tests of numbers, and reading a list in which one element is set
 pub ruleset set_tests = (nat_tests, get_or-set_other, get_or-set_same)
@@ -64,13 +64,13 @@ unfolding occurrences
 occurrences-push x q c y l = grind (arith, take_more_set, sum_by_push)
 
 -- what the number of a directory is below
-pub dir_below : (kinds : List ℕ) (x : ℕ) → dir_at kinds x ≡ true → x < length kinds
+pub dir_below : (kinds : List ℕ) (x : ℕ) → is_dir_at kinds x ≡ true → x < length kinds
 dir_below kinds x h = grind (arith, nat_tests, get_or_past)
 
 -- what an entry that names a directory without a mark is
 pub record IsNewEntry (kinds : List ℕ) (r : List Bool) (e : RoledEntry) : Type 0 where
   pub plain : is_plain e.role ≡ true
-  pub dir : dir_at kinds e.entry.number ≡ true
+  pub dir : is_dir_at kinds e.entry.number ≡ true
   pub unmarked : bool_at r e.entry.number ≡ false
   pub below : e.entry.number < length kinds
 
@@ -99,14 +99,14 @@ pub entry_step : {g : ℕ → Option ℕ} {r r' r'' : List Bool} {p p' p'' q q' 
 entry_step kinds s e rest a b = same_result-trans a (same_result-then (from_entries-cons kinds s e rest) b)
 
 -- what a directory's entries discover, by its edges, before those of others
-from_edges : (kinds : List ℕ) (entries : ℕ → List RoledEntry) (s x : ℕ) (o : Option ℕ) → dir_at kinds s ≡ true →
+from_edges : (kinds : List ℕ) (entries : ℕ → List RoledEntry) (s x : ℕ) (o : Option ℕ) → is_dir_at kinds s ≡ true →
     cond (edge (graph_with kinds entries) s x) (Some s) o ≡ option_or (from_entries kinds s (entries s) x) o
 from_edges kinds entries s x o d = grind arith
 
 -- the step of the loop over a level
 pub level_step : {g : ℕ → Option ℕ} {r r' r'' : List Bool} {p p' p'' q q' q'' : List ℕ} (kinds : List ℕ)
     (entries : ℕ → List RoledEntry) (frontier : List ℕ) (i : ℕ) → i < length frontier →
-    dir_at kinds (get_or frontier i 0) ≡ true →
+    is_dir_at kinds (get_or frontier i 0) ≡ true →
     SameResult g r p q (from_dirs (graph_with kinds entries) (drop i frontier)) r' p' q' →
     SameResult (from_entries kinds (get_or frontier i 0) (entries (get_or frontier i 0))) r' p' q' nothing r'' p'' q'' →
     SameResult g r p q (from_dirs (graph_with kinds entries) (drop (i + 1) frontier)) r'' p'' q''

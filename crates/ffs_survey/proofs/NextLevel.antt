@@ -6,7 +6,7 @@ use Rattle.ffs_memory.specs.Filled.{SortsPart}
 use Rattle.ffs_survey.specs.{declared.lists.Lists.Lists, Lent.{SameLists, found_up_to, CountsAtMost}, Levels.Discovers}
 use Rattle.ffs_survey.specs.Discover.{IsReachedDir, Found, Extends, IsFrontier, LevelsKnown, from_dirs}
 use Rattle.ffs_survey.{specs.{Discover.unset, Survey.{number_at, graph_with}}, proofs.Remaining.{nothing, SameResult}}
-use Rattle.ffs_volume.specs.Encodings.Kinds.{dir_at}
+use Rattle.ffs_volume.specs.Encodings.Kinds.{is_dir_at}
 use Rattle.ffs_survey.proofs.{CalmLaws.frontier_reached, Frontiers.{frontier_dirs, sane_of}}
 use Rattle.ffs_survey.proofs.{Queues.{level_after, queue_parts, same_result_after}}
 
@@ -34,7 +34,7 @@ few_counted l r x b = grind arith
 
 -- all of a level is reached
 pub level_reached : {kinds q p : List ℕ} {r : List Bool} {low high : ℕ} (entries : ℕ → List RoledEntry) →
-    dir_at kinds 2 ≡ true → AtSomeLevel (graph_with kinds entries) low high r p q →
+    is_dir_at kinds 2 ≡ true → AtSomeLevel (graph_with kinds entries) low high r p q →
     All (IsReachedDir kinds r) (drop low (take high q))
 level_reached entries root level i d l = record {
   dir = frontier_dirs level.at.frontier root i d l;

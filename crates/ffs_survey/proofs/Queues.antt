@@ -13,7 +13,7 @@ use Rattle.ffs_survey.specs.Discover.{occurrences, from_dirs, IsFrontier, Levels
 use Rattle.ffs_survey.specs.{Discover.{IsReachedPart, count_of, any_of}, Survey.bool_at}
 use Rattle.ffs_survey.proofs.Remaining.{nothing, none, never, Counts, SameResult}
 use Rattle.ffs_survey.{specs.Survey.{number_at, graph_with, counted_in}, proofs.Totals.{any_all, count_all}}
-use Rattle.ffs_volume.specs.Encodings.Kinds.{dir_at}
+use Rattle.ffs_volume.specs.Encodings.Kinds.{is_dir_at}
 
 -- a queue that is extended twice
 pub extends_on : {a b c : ℕ} {q q' q'' : List ℕ} → Extends a b q q' → Extends b c q' q'' → Extends a c q q''
@@ -115,15 +115,15 @@ reached_part {k = k} {starts = starts} {r = r} {q = q} kinds entries e sane fron
 
 -- where inode 2 is no directory, nothing was read
 pub alone_part : {starts : List ℕ} {m r : List Bool} {p : List ℕ} (kinds : List ℕ) (entries : ℕ → List RoledEntry) →
-    length r ≡ length kinds → IsSane (graph_with kinds entries) → dir_at kinds 2 ≡ false →
+    length r ≡ length kinds → IsSane (graph_with kinds entries) → is_dir_at kinds 2 ≡ false →
     LevelsKnown (graph_with kinds entries) 0 r p (2 ∷ []) → ((x : ℕ) → bool_at m x ≡ false) →
     IsReachedPart (graph_with kinds entries) starts starts m r p
 alone_part kinds entries e sane dry n blank =
     let g = graph_with kinds entries in
     let a = root_alone sane dry n in
     reached_part kinds entries e sane a.1 a.0 (record {
-      counts = λ x b. omega (arith, cond-false (dir_at kinds 2) (count_by (refers x) (entries 2)) 0 dry);
-      names = λ x b. blank x ∙ sym (or-false (is_naming_dir g 2 x) ∙ and_left (dir_at kinds 2) _ dry);
+      counts = λ x b. omega (arith, cond-false (is_dir_at kinds 2) (count_by (refers x) (entries 2)) 0 dry);
+      names = λ x b. blank x ∙ sym (or-false (is_naming_dir g 2 x) ∙ and_left (is_dir_at kinds 2) _ dry);
     })
 
 -- no entry is counted before the first directory

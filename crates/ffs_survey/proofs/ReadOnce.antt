@@ -9,13 +9,13 @@ use Rattle.ffs_volume.specs.declared.{Role.{Role, TheVariants.{Empty, Dot, Dotdo
 use Rattle.ffs_volume.specs.Directories.{Climb.is_value, Graph.{level, parent, within}, Roles.RoledEntry}
 use Rattle.ffs_volume.proofs.{ClimbLaws.is_value-true, Graphs.IsSane, LevelLaws.level-from}
 use Rattle.ffs_survey.specs.Calm.{IsFlagged}
-use Rattle.ffs_volume.specs.Directories.Calm.{CurrentDir, is_calm_role, is_calm_entry, reached_after, are_calm}
+use Rattle.ffs_volume.specs.Costs.Calm.{CurrentDir, is_calm_role, is_calm_entry, reached_after, are_calm}
 use Rattle.ffs_survey.specs.Calm.{dir_by, AreUnread, IsReadOnce, IsUnread}
-use Rattle.ffs_volume.specs.Directories.Calm.{is_calm_by_parents, is_elsewhere}
+use Rattle.ffs_volume.specs.Costs.Calm.{is_calm_by_parents, is_elsewhere}
 use Rattle.ffs_survey.specs.Discover.{bit, from_entries, occurrences, IsFrontier, LevelsKnown}
 use Rattle.ffs_survey.proofs.Remaining.{nothing, SameResult}
 use Rattle.ffs_survey.{proofs.ParentLaws.{parent_above, root_level}, specs.Survey.{bool_at, graph_with, number_at}}
-use Rattle.ffs_volume.specs.Encodings.Kinds.{dir_at}
+use Rattle.ffs_volume.specs.Encodings.Kinds.{is_dir_at}
 use Rattle.ffs_survey.proofs.{CalmLaws.{Stays, all_calm, same_result_stays}, Discovered.{bit-le, set_tests}}
 use Rattle.ffs_survey.proofs.Frontiers.{bit-one, occurrences-at, occurrences-cons}
 use Rattle.ffs_survey.proofs.{Frontiers.{frontier_dirs, occurrences-index, sane_of, within-bound}, Queues.at_place}
@@ -113,14 +113,14 @@ below_no_frontier kinds entries k t x {p = p} sane known two at reached =
 
 -- none of the directories of a level is read before that
 pub unread_level : {k : ℕ} {xs q p : List ℕ} {r : List Bool} (kinds : List ℕ) (entries : ℕ → List RoledEntry) →
-    2 < length kinds → dir_at kinds 2 ≡ true → IsFrontier (graph_with kinds entries) k xs →
+    2 < length kinds → is_dir_at kinds 2 ≡ true → IsFrontier (graph_with kinds entries) k xs →
     LevelsKnown (graph_with kinds entries) k r p q → AreUnread r p xs
 unread_level {k = k} {xs = xs} kinds entries some root frontier known =
     let sane = sane_of kinds entries some in
     record {
       each = λ i d l x reached.
           let t = get_or xs i d in
-          let dir : dir_at kinds t ≡ true = frontier_dirs frontier root i d l in
+          let dir : is_dir_at kinds t ≡ true = frontier_dirs frontier root i d l in
           let two : 2 ≤ t = leb-true 2 t (and_parts (nat_le 2 t) _ dir).0 in
           let at : level (graph_with kinds entries) t ≡ Some k =
           is_value-true _ k (bit-one _ _ (frontier.members t) (occurrences-at xs i d l)) in
@@ -227,5 +227,5 @@ read_each {kinds = kinds} {m = m} {r = r} {p = p} {f = f} entries right_shape hi
 
 -- where inode 2 is no directory, no directory is reached
 pub root_alone_reached : (r : List Bool) (kinds : List ℕ) (d : ℕ) → ((x : ℕ) → bool_at r x ≡ false) →
-    dir_at kinds 2 ≡ false → dir_at kinds d ≡ true → bool_at (set r 2 true) d ≡ true → ⊥
+    is_dir_at kinds 2 ≡ false → is_dir_at kinds d ≡ true → bool_at (set r 2 true) d ≡ true → ⊥
 root_alone_reached r kinds d none dry dir reached = let old = none d in grind (arith, set_tests)

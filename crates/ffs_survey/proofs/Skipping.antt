@@ -2,7 +2,7 @@
 use Rattle.std.proofs.Common.{◌≡◌, ℕ, zero, suc, ◌+◌, ◌≤◌, ◌&&◌, Bool, true, false, nat_le, List, [], ◌∷◌, sym, ap, arith}
 use mathlib.Core.Path.{fun_ext}
 use Rattle.std.proofs.lemmas.Bool.Decides.nat_tests
-use Rattle.ffs_volume.specs.Directories.Calm.{CurrentDir, are_calm, reached_after}
+use Rattle.ffs_volume.specs.Costs.Calm.{CurrentDir, are_calm, reached_after}
 use Rattle.ffs_volume.specs.{Directories.Roles.RoledEntry, declared.Role.TheVariants.Empty}
 use Rattle.ffs_survey.specs.{Discover.{any_in, count_in, from_entries}, Reading.SkipsEmpty}
 

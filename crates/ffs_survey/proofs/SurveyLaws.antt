@@ -10,7 +10,7 @@ use Rattle.ffs_volume.specs.Directories.Roles.{is_dir, is_suspect, references, r
 use Rattle.ffs_volume.specs.Directories.{Volumes.{class_at, marked_at, volume_of, volume_with}, Parents.graph_of}
 use Rattle.ffs_volume.specs.Encodings.Kinds.{kind_of}
 use Rattle.ffs_survey.specs.Survey.{bool_at, number_at, is_dir_kind, suspect_at, counted_below, references_to}
-use Rattle.ffs_volume.specs.Encodings.Kinds.{dir_at}
+use Rattle.ffs_volume.specs.Encodings.Kinds.{is_dir_at}
 
 -- the references of the graph are the volume's
 pub references_is : (v : Volume) (x : ℕ) → references_to (graph_of v) x ≡ references v x
@@ -35,7 +35,7 @@ kind_is_dir v i File e = file_kind v i e
 -- kinds that the volume gives say which inodes are directories
 pub dirs_of_kinds : (v : Layout) (image : List ℕ) (kinds : List ℕ) (x : ℕ)
     → number_at kinds x ≡ kind_of (class_at v image x) (inode_of v image x)
-    → dir_at kinds x ≡ is_dir (volume_of v image) x
+    → is_dir_at kinds x ≡ is_dir (volume_of v image) x
 unfolding volume_of volume_with
 dirs_of_kinds v image kinds x h = grind (arith, kind_is_dir)
 

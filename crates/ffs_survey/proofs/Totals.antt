@@ -11,8 +11,8 @@ use Rattle.ffs_survey.proofs.Frontiers.{occurrences-cases, occurrences-cons, occ
 use Rattle.ffs_survey.specs.Discover.{bit, occurrences, count_of, any_of, counted_by, count_in, any_in}
 use Rattle.ffs_survey.specs.Survey.{counted_in, counted_below, number_at, bool_at, graph_with}
 use Rattle.ffs_survey.proofs.Remaining.{none, never, Counts}
-use Rattle.ffs_volume.specs.Encodings.Kinds.{dir_at}
-use Rattle.ffs_volume.specs.Report.DirectoryReads.{costs_below}
+use Rattle.ffs_volume.specs.Encodings.Kinds.{is_dir_at}
+use Rattle.ffs_volume.specs.Costs.DirectoryReads.{costs_below}
 
 abbrev part : (ℕ → ℕ) → ℕ → List ℕ → ℕ
 part c n q = sum_by (λ s. cond (nat_lt s n) (c s) 0) q
@@ -141,7 +141,7 @@ entry_counted e rest h u w = record {
 -- the step of the loop over a level
 pub dir_counted : {n : ℕ} {c : ℕ → ℕ} {a : ℕ → Bool} {f f' f'' : List ℕ} {m m' m'' : List Bool} (kinds : List ℕ)
     (entries : ℕ → List RoledEntry) (frontier : List ℕ) (i : ℕ) → i < length frontier →
-    dir_at kinds (get_or frontier i 0) ≡ true →
+    is_dir_at kinds (get_or frontier i 0) ≡ true →
     Counts n c a f m (count_of (graph_with kinds entries) (drop i frontier))
     (any_of (graph_with kinds entries) (drop i frontier)) f' m' →
     Counts n (count_in (entries (get_or frontier i 0))) (any_in (entries (get_or frontier i 0))) f' m' none never f''
@@ -154,7 +154,7 @@ dir_counted kinds entries frontier i l d h k =
     record {
       counts = λ x b.
           let one = at_drop_more (λ z. count_of g z x) frontier i 0 l in
-          let two = cond-true (dir_at kinds s) (count_in (entries s) x) 0 d in
+          let two = cond-true (is_dir_at kinds s) (count_in (entries s) x) 0 d in
           omega (arith, one, sum_by-cons (λ s. counted_in g s x) s rest, two, h.counts x b, k.counts x b);
       names = λ x b.
           let one = at_drop_more (λ z. any_of g z x) frontier i 0 l in

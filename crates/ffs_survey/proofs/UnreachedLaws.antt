@@ -10,7 +10,7 @@ use Rattle.ffs_volume.specs.{Directories.Graph.{reached, parent}, Disk.Search.{f
 use Rattle.ffs_volume.{proofs.{Graphs.IsSane, Unreached.parent-unreached}, specs.Directories.Roles.RoledEntry}
 use Rattle.ffs_survey.specs.Discover.{Found, AreCountedOn, count_in, any_in, counted_by, IsReachedPart, IsRead}
 use Rattle.ffs_survey.specs.{Discover.{is_unreached_dir, is_unreached_edge}, Survey.{bool_at, number_at}}
-use Rattle.ffs_volume.specs.Encodings.Kinds.{dir_at}
+use Rattle.ffs_volume.specs.Encodings.Kinds.{is_dir_at}
 use Rattle.ffs_survey.{specs.Survey.{graph_with, counted_in, start_in, IsSurvey}, proofs.Discovered.dir_below}
 use Rattle.ffs_survey.proofs.Totals.{counted_both, some_both}
 
@@ -129,9 +129,9 @@ survey_whole {r = r} {old = old} {new = new} kinds entries sane lr lp begins i k
     past : (x : ℕ) → length kinds ≤ x → number_at new.parents x ≡ unwrap_or (parent g x) 0
     past x b =
         let off : bool_at r x ≡ false = get_or_past r x false (omega arith) in
-        let dry = false_from_ne_true (dir_at kinds x) (λ t. absurd (omega (arith, dir_below kinds x t))) in
+        let dry = false_from_ne_true (is_dir_at kinds x) (λ t. absurd (omega (arith, dir_below kinds x t))) in
         let none = first_below-is_none (λ s. edge g s x) (length kinds)
-        (λ s l. and_left (dir_at kinds x) (is_naming_dir g s x) dry) in
+        (λ s l. and_left (is_dir_at kinds x) (is_naming_dir g s x) dry) in
         get_or_past new.parents x 0 (omega arith) ∙ sym (ap (λ o. unwrap_or o 0) (unreached_first x off ∙ none))
 
     below : (x : ℕ) → x < length kinds → number_at new.parents x ≡ unwrap_or (parent g x) 0
@@ -142,7 +142,7 @@ survey_whole {r = r} {old = old} {new = new} kinds entries sane lr lp begins i k
         elim (cases_Bool (bool_at r x)) [
           | inl on ↦
               let none = first_below-is_none (is_unreached_edge g kinds r x) (length kinds)
-              (λ s b. and_left (is_unreached_dir kinds r x) _ (and_right (dir_at kinds x) _ (ap not on))) in
+              (λ s b. and_left (is_unreached_dir kinds r x) _ (and_right (is_dir_at kinds x) _ (ap not on))) in
               grind arith
           | inr off ↦
               let same = first_same (is_unreached_edge g kinds r x) (λ s. edge g s x) (length kinds)

@@ -4,7 +4,7 @@ use Rattle.std.proofs.Common.{Option, None, Some, unwrap_or, arith, sym, ◌∙�
 use Rattle.std.proofs.lemmas.Bool.Decides.{nat_tests}
 use mathlib.Core.Path.{fun_ext}
 use Rattle.ffs_volume.{proofs.Unreached.{IsLost, lost-from}, specs.Directories.Graph.{Graph, parent, parent_by}}
-use Rattle.ffs_volume.{specs.Directories.Graph.{is_dead_in, none_or_dead, is_unref_dir_in}, proofs.Graphs.IsSane}
+use Rattle.ffs_volume.{specs.Directories.Connectivity.{is_dead_in, none_or_dead, is_unref_dir_in}, proofs.Graphs.IsSane}
 use Rattle.ffs_volume.{proofs.SearchLaws.first_below-some, specs.Directories.Climb.is_leader_within}
 use Rattle.ffs_survey.{proofs.Discovered.dir_below, specs.{Cycles.parent_in, Survey.{AreNamed, IsTree, number_at}}}
 use Rattle.ffs_survey.specs.Survey.{dead_at, suspect_at}

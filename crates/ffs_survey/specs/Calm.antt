@@ -3,8 +3,8 @@ use Rattle.std.specs.Prelude.{◌≡◌, ◌≢◌, ◌<◌, All, get_or, ℕ, �
 use Rattle.std.specs.{Prelude.length, List.list_any}
 use Rattle.ffs_volume.specs.Directories.{Roles.RoledEntry, Graph.is_naming_entry}
 use Rattle.ffs_survey.specs.Survey.{bool_at, number_at}
-use Rattle.ffs_volume.specs.Encodings.Kinds.{dir_at}
-use Rattle.ffs_volume.specs.Directories.Calm.{are_calm, is_elsewhere, is_calm_by_parents, CurrentDir}
+use Rattle.ffs_volume.specs.Encodings.Kinds.{is_dir_at}
+use Rattle.ffs_volume.specs.Costs.Calm.{are_calm, is_elsewhere, is_calm_by_parents, CurrentDir}
 
 -- the directory d, by the kinds, the marks and the parents of all inodes
 abbrev pub dir_by : List ℕ → List Bool → List ℕ → ℕ → CurrentDir
@@ -19,7 +19,7 @@ pub record IsCalm (s : CurrentDir) (reached : List Bool) (parents : List ℕ) (e
   pub entries_right : are_calm s before 0 entries ≡ true
   pub shape_right : right_shape ≡ true
   pub is_reached : bool_at reached s.dir ≡ true
-  pub below : (x : ℕ) → dir_at s.kinds x ≡ true → list_any (is_naming_entry x) entries ≡ true
+  pub below : (x : ℕ) → is_dir_at s.kinds x ≡ true → list_any (is_naming_entry x) entries ≡ true
       → (bool_at reached x ≡ true) × (number_at parents x ≡ s.dir)
 
 -- all directories with a flag are calm
@@ -38,7 +38,7 @@ IsFlagged d all_calm right_shape old new =
 abbrev pub EachCalmIsFlagged : List ℕ → (marked reached : List Bool) → List ℕ → (ℕ → List RoledEntry) → (ℕ → Bool) →
     List Bool → Type 0
 EachCalmIsFlagged kinds marked reached parents entries right_shape calm =
-    (d : ℕ) → dir_at kinds d ≡ true → bool_at reached d ≡ true
+    (d : ℕ) → is_dir_at kinds d ≡ true → bool_at reached d ≡ true
     → is_calm_by_parents kinds marked (number_at parents) (entries d) (right_shape d) d ≡ true → bool_at calm d ≡ true
 
 -- no child of the directory d is reached

@@ -5,7 +5,7 @@ use Rattle.std.specs.{Prelude.{unwrap_or, find, count_by}, List.{list_any, sum_b
 use Rattle.ffs_volume.specs.{Directories.{Roles.{RoledEntry, refers}, Climb.is_value}, Disk.Search.first_below}
 use Rattle.ffs_volume.specs.Directories.Graph.{Graph, is_naming_entry, is_naming_dir, edge, within, level, parent}
 use Rattle.ffs_survey.specs.Survey.{bool_at, number_at, counted_in}
-use Rattle.ffs_volume.specs.Encodings.Kinds.{dir_at}
+use Rattle.ffs_volume.specs.Encodings.Kinds.{is_dir_at}
 
 -- what the lists of a survey hold at a moment: the kinds and the marks that it goes by, and what it has found
 -- so far: references, named and reached inodes, parents, calm directories, and the queue
@@ -34,7 +34,7 @@ unset flags = sum_by (λ b. bit (not b)) flags
 
 -- the parent that x gets from the directory s with these entries to come
 abbrev pub from_entries : List ℕ → ℕ → List RoledEntry → ℕ → Option ℕ
-from_entries kinds s rest x = cond (dir_at kinds x && list_any (is_naming_entry x) rest) (Some s) None
+from_entries kinds s rest x = cond (is_dir_at kinds x && list_any (is_naming_entry x) rest) (Some s) None
 
 -- the parent that x gets from these directories, one after another
 abbrev pub from_dirs : Graph → List ℕ → ℕ → Option ℕ
@@ -120,7 +120,7 @@ pub record IsReachedPart (g : Graph) (starts references : List ℕ) (named reach
 
 -- x is a directory that isn't reached
 abbrev pub is_unreached_dir : List ℕ → List Bool → ℕ → Bool
-is_unreached_dir kinds reached x = dir_at kinds x && not (bool_at reached x)
+is_unreached_dir kinds reached x = is_dir_at kinds x && not (bool_at reached x)
 
 -- the directory s names the directory x, and neither is reached
 abbrev pub is_unreached_edge : Graph → List ℕ → List Bool → (x s : ℕ) → Bool
@@ -148,5 +148,5 @@ pub record Extends (top end : ℕ) (old new : List ℕ) : Type 0 where
 
 -- a directory that is reached
 pub record IsReachedDir (kinds : List ℕ) (reached : List Bool) (d : ℕ) : Type 0 where
-  pub dir : dir_at kinds d ≡ true
+  pub dir : is_dir_at kinds d ≡ true
   pub is_reached : bool_at reached d ≡ true

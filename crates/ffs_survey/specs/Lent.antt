@@ -7,9 +7,9 @@ use Rattle.ffs_survey.specs.declared.lists.{Lists.Lists, FoundLists.FoundLists, 
 use Rattle.ffs_survey.specs.declared.lists.{LentDir.LentDir}
 use Rattle.ffs_survey.specs.{declared.directories.Directories.Ghosts, Survey.{number_at, bool_at, graph_with}}
 use Rattle.ffs_survey.specs.Survey.{most_start}
-use Rattle.ffs_volume.specs.Encodings.Kinds.{dir_at}
+use Rattle.ffs_volume.specs.Encodings.Kinds.{is_dir_at}
 use Rattle.ffs_survey.specs.Calm.{dir_by, AreCalm, IsFlagged, IsReadOnce}
-use Rattle.ffs_volume.specs.{Directories.Calm.CurrentDir, Report.DirectoryReads.costs_below}
+use Rattle.ffs_volume.specs.Costs.{Calm.CurrentDir, DirectoryReads.costs_below}
 use Rattle.ffs_survey.specs.Discover.{AreDiscovered, Extends, Found, IsReachedDir, IsReachedPart, from_entries}
 use Rattle.ffs_survey.specs.{Discover.{is_unreached_dir, unset}, Levels.ReadsUnreached, Lists.{AreLists, GrowsBy}}
 
@@ -228,7 +228,7 @@ module _ {S : Type 0} (D : Ghosts S) where
         l.references.now.items l'.references.now.items l'.named.now.items l'.reached.now.items l'.parents.now.items)
     pub calm : ForKnown old (λ entries right_shape. AreCalm l.kinds.now l.marked.now.items l'.reached.now.items
         l'.parents.now.items entries right_shape l'.calm.now.items)
-    pub read : ForKnown old (λ entries right_shape. (d : ℕ) → dir_at l.kinds.now d ≡ true
+    pub read : ForKnown old (λ entries right_shape. (d : ℕ) → is_dir_at l.kinds.now d ≡ true
         → bool_at l'.reached.now.items d ≡ true → IsReadOnce (dir_by l.kinds.now l.marked.now.items l'.parents.now.items d)
         l'.reached.now.items l'.parents.now.items (entries d) (right_shape d) l'.calm.now.items)
     pub once : (b : List ℕ) → D.knows (D.base old) b → D.reads new ≤ D.reads old

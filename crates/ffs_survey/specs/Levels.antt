@@ -2,7 +2,7 @@
 use Rattle.std.specs.Prelude.{◌≡◌, ℕ, ◌+◌, ◌<◌, ◌≤◌, ◌==◌, All, Bool, true, ◌&&◌, cond, List, length, take}
 use Rattle.ffs_volume.specs.Directories.Roles.{RoledEntry}
 use Rattle.ffs_survey.specs.{Survey.{bool_at, number_at, graph_with, IsSurvey}, Calm.{dir_by, AreCalm, IsFlagged}}
-use Rattle.ffs_volume.specs.Directories.Calm.{are_calm}
+use Rattle.ffs_volume.specs.Costs.Calm.{are_calm}
 use Rattle.ffs_survey.specs.Calm.{AreUnread, EachCalmIsFlagged, IsReadOnce}
 use Rattle.ffs_survey.specs.Discover.{Found, AreCountedOn, AreDiscovered, from_entries, from_dirs, count_in}
 use Rattle.ffs_survey.specs.{Discover.{any_in, count_of, any_of, is_unreached_dir, unset}, Lists.GrowsBy}

@@ -6,7 +6,7 @@ use Rattle.ffs_volume.specs.Directories.{Roles.refers, Graph.{Graph, is_named, r
 pub use Rattle.ffs_volume.specs.Encodings.Lists.{bool_at, number_at}
 use Rattle.ffs_volume.specs.Encodings.Kinds.{is_empty_dir_kind}
 pub use Rattle.ffs_volume.specs.Encodings.Kinds.{is_dir_kind}
-use Rattle.ffs_volume.specs.Encodings.Kinds.{dir_at}
+use Rattle.ffs_volume.specs.Encodings.Kinds.{is_dir_at}
 
 -- x is suspect: marked, or a directory of size 0
 abbrev pub suspect_at : List ℕ → List Bool → ℕ → Bool
@@ -18,7 +18,7 @@ dead_at kinds marked named x = suspect_at kinds marked x && (not (x == ROOTINO) 
 
 -- the graph of the directories of a list of kinds, with these entries
 abbrev pub graph_with : List ℕ → (ℕ → List RoledEntry) → Graph
-graph_with kinds entries = record { count = length kinds; is_dir = dir_at kinds; entries = entries }
+graph_with kinds entries = record { count = length kinds; is_dir = is_dir_at kinds; entries = entries }
 
 -- how many entries of s refer to x, where s is a directory
 abbrev pub counted_in : Graph → (s x : ℕ) → ℕ
@@ -59,6 +59,6 @@ pub record AreNamed (g : Graph) (kinds : List ℕ) (named : List Bool) : Type 0 
 pub record IsTree (g : Graph) (kinds : List ℕ) (reached : List Bool) (parents : List ℕ) : Type 0 where
   pub some : 2 < g.count
   pub count : g.count ≡ length kinds
-  pub dirs : (x : ℕ) → g.is_dir x ≡ dir_at kinds x
+  pub dirs : (x : ℕ) → g.is_dir x ≡ is_dir_at kinds x
   pub reaches : (x : ℕ) → bool_at reached x ≡ is_reached g x
   pub parent_is : (x : ℕ) → number_at parents x ≡ unwrap_or (parent g x) 0

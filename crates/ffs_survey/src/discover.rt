@@ -6,7 +6,7 @@ ghost use Rattle.ffs_survey.specs.{Reading.roled_of, Lists.CountLists, Survey.{b
 ghost use Rattle.ffs_survey.specs.Lent.{found_up_to, current_of, ForKnown, CanVisit, CanCount, CanReach, CanReadLevel};
 ghost use Rattle.ffs_survey.specs.Lent.{Adopts, AddsUnreached, FlagsIfCalm, LeavesLent, Visits};
 ghost use Rattle.ffs_survey.specs.Levels.{Discovers, ReadsReached, ReadsDirs};
-ghost use Rattle.ffs_volume.specs.Directories.Calm.{is_calm_kind, is_calm_plain, is_calm_entry};
+ghost use Rattle.ffs_volume.specs.Costs.Calm.{is_calm_kind, is_calm_plain, is_calm_entry};
 ghost use Rattle.ffs_survey.specs.Discover.{IsCounted, is_unreached_dir as is_unreached_dir_at};
 
 use crate::directories::Directories;

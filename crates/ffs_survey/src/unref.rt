@@ -1,6 +1,6 @@
 //! Which inodes are suspect or dead, and of which directories UNREF DIR is reported.
 ghost use Rattle.std.specs.Prelude.{◌≡◌, ◌≢◌, ◌<◌, length, min, vec_len, MatchOption};
-ghost use Rattle.ffs_volume.specs.Directories.Graph.{Graph, is_unref_dir_in};
+ghost use Rattle.ffs_volume.specs.Directories.{Graph.Graph, Connectivity.is_unref_dir_in};
 ghost use Rattle.ffs_survey.specs.Survey.{suspect_at, dead_at, IsTree, AreNamed, number_at};
 
 use crate::lists::Surveyed;

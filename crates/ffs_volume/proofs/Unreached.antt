@@ -1,7 +1,7 @@
 -- What is not reached, and what is lost.
 use Rattle.std.proofs.{Common.{◌≡◌, ◌≢◌, ℕ, Bool, true, false, None, ne_eqb, arith}, lemmas.Bool.Decides.nat_tests}
 use Rattle.ffs_volume.{proofs.SearchLaws.is_some-none, specs.{Disk.Search.first_below, Directories.Graph.Graph}}
-use Rattle.ffs_volume.specs.Directories.Graph.{level, edge, reached, parent, is_lost, is_dead_in}
+use Rattle.ffs_volume.specs.Directories.{Graph.{level, edge, reached, parent}, Connectivity.{is_lost, is_dead_in}}
 
 pub edge-parts : (v : Graph) (s d : ℕ) → edge v s d ≡ true → (v.is_dir d ≡ true) × (v.is_dir s ≡ true)
 edge-parts v s d h = grind arith

@@ -47,5 +47,6 @@ pub mod Report
 pub mod Find
 pub mod Consistent
 pub mod Encodings
+pub mod Costs
 pub mod Laws
 pub mod Examples

@@ -1,11 +1,11 @@
--- Levels, parents and lost directories of a volume, read as a graph, which `Parents` makes of it
+-- Levels and parents of the directories of a volume, read as a graph, which `Parents` makes of it
 -- (`graph_of`). Only plain entries count. A plain entry names the number that it carries
 -- (`is_naming_entry`; by its index `is_naming_entry_at`), and its directory names it too
 -- (`is_naming_dir`). A number is named where some directory names it (`is_named`).
 use Rattle.std.specs.Prelude.{◌≡◌, ℕ, zero, suc, ◌==◌, Bool, true, false, not, ◌&&◌, ◌||◌, List, Option, None, Some}
 use Rattle.std.specs.{Prelude.{is_some, cond, [], ◌∷◌, option_map, if◌then◌else◌}, List.list_any}
 use Rattle.ffs_volume.specs.{declared.constants.TheConstants.ROOTINO, Directories.Roles.{RoledEntry, is_plain}}
-use Rattle.ffs_volume.specs.{Disk.Search.{first_below, some_below}, Directories.Climb.{is_value, is_leader_within}}
+use Rattle.ffs_volume.specs.{Disk.Search.{first_below, some_below}, Directories.Climb.is_value}
 
 -- what levels and parents depend on: the number of inodes, which of them are directories, and the
 -- entries of each directory in order
@@ -73,25 +73,6 @@ parent_entry_index g d = if d == ROOTINO then None else index_in_parent g d (par
 -- some plain entry names x
 abbrev pub is_named : Graph → ℕ → Bool
 is_named g x = some_below (λ s. is_naming_dir g s x) g.count
-
--- x is dead: it is suspect, isn't the root, and no plain entry names it
-abbrev pub is_dead_in : Graph → (ℕ → Bool) → ℕ → Bool
-is_dead_in g suspect x = suspect x && (not (x == ROOTINO) && not (is_named g x))
-
--- d is lost: a directory other than 2 that is neither reached nor dead
-abbrev pub is_lost : Graph → (ℕ → Bool) → ℕ → Bool
-is_lost g suspect d = g.is_dir d && (not (d == ROOTINO) && (not (reached g d) && not (is_dead_in g suspect d)))
-
--- the directory has no parent, or a dead one
-abbrev pub none_or_dead : Graph → (ℕ → Bool) → Option ℕ → Bool
-none_or_dead g suspect None = true
-none_or_dead g suspect (Some s) = is_dead_in g suspect s
-
--- d is reported as UNREF DIR, as one of each lost tree or cycle: it is lost, and has no parent, or
--- a dead one, or is the least on its cycle of parents
-abbrev pub is_unref_dir_in : Graph → (ℕ → Bool) → ℕ → Bool
-is_unref_dir_in g suspect d =
-    is_lost g suspect d && (none_or_dead g suspect (parent g d) || is_leader_within (parent g) g.count d)
 
 -- there is an entry at index j, and it passes
 abbrev pub test_at : (RoledEntry → Bool) → ℕ → List RoledEntry → Bool

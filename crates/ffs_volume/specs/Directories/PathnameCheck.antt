@@ -241,24 +241,24 @@ is_silent Unallocated = false
 is_silent (Named defects) = not (defects.first_of_suspect || (defects.extraneous || defects.wrong_type))
 
 -- ---- the entries of a directory
--- the verdict on an entry at index j of the directory s
-unfoldable pub plain_verdict : (vol : Volume) (s j : ℕ) → Entry → Verdict
-plain_verdict vol s j e =
-    verdict_on vol (is_first_naming_entry (graph_of vol) s j e.number) (is_parent_entry (graph_of vol) s j e.number) e
+-- the verdict on an entry at index j of the directory d
+unfoldable pub plain_verdict : (vol : Volume) (d j : ℕ) → Entry → Verdict
+plain_verdict vol d j e =
+    verdict_on vol (is_first_naming_entry (graph_of vol) d j e.number) (is_parent_entry (graph_of vol) d j e.number) e
 
--- the messages on a plain entry of s, by the verdict on it
-abbrev pub plain_lines : (vol : Volume) (s : ℕ) → Entry → Verdict → List TreeMessage
-plain_lines vol s e verdict =
-    verdict_lines verdict e.number (attributes vol e.number) (entry_path (graph_of vol) s e.name)
+-- the messages on a plain entry of d, by the verdict on it
+abbrev pub plain_lines : (vol : Volume) (d : ℕ) → Entry → Verdict → List TreeMessage
+plain_lines vol d e verdict =
+    verdict_lines verdict e.number (attributes vol e.number) (entry_path (graph_of vol) d e.name)
     (dir_path (graph_of vol) e.number)
 
--- the messages on an entry of s by its role, and by the verdict on it, if it is plain
-abbrev pub role_lines : (vol : Volume) (s : ℕ) → Role → Entry → Verdict → List TreeMessage
-role_lines vol s Empty e verdict = []
-role_lines vol s Dot e verdict = []
-role_lines vol s Dotdot e verdict = []
-role_lines vol s Extra e verdict = extra_lines (attributes vol s) (dir_path (graph_of vol) s) e
-role_lines vol s Plain e verdict = plain_lines vol s e verdict
+-- the messages on an entry of d by its role, and by the verdict on it, if it is plain
+abbrev pub role_lines : (vol : Volume) (d : ℕ) → Role → Entry → Verdict → List TreeMessage
+role_lines vol d Empty e verdict = []
+role_lines vol d Dot e verdict = []
+role_lines vol d Dotdot e verdict = []
+role_lines vol d Extra e verdict = extra_lines (attributes vol d) (dir_path (graph_of vol) d) e
+role_lines vol d Plain e verdict = plain_lines vol d e verdict
 
 -- there is none
 abbrev pub is_role_silent : Role → Verdict → Bool
@@ -268,14 +268,14 @@ is_role_silent Dotdot verdict = true
 is_role_silent Extra verdict = false
 is_role_silent Plain verdict = is_silent verdict
 
--- the messages on an entry at index j of the directory s
-unfoldable pub entry_lines : (vol : Volume) (s j : ℕ) (e : RoledEntry) → List TreeMessage
-entry_lines vol s j e = role_lines vol s e.role e.entry (plain_verdict vol s j e.entry)
+-- the messages on an entry at index j of the directory d
+unfoldable pub entry_lines : (vol : Volume) (d j : ℕ) (e : RoledEntry) → List TreeMessage
+entry_lines vol d j e = role_lines vol d e.role e.entry (plain_verdict vol d j e.entry)
 
--- the messages on the entries of s from index j on
-unfoldable pub lines_of_entries : (vol : Volume) (s j : ℕ) (es : List RoledEntry) → List TreeMessage
-lines_of_entries vol s j [] = []
-lines_of_entries vol s j (e ∷ es) = entry_lines vol s j e ++ lines_of_entries vol s (suc j) es
+-- the messages on the entries of d from index j on
+unfoldable pub lines_of_entries : (vol : Volume) (d j : ℕ) (es : List RoledEntry) → List TreeMessage
+lines_of_entries vol d j [] = []
+lines_of_entries vol d j (e ∷ es) = entry_lines vol d j e ++ lines_of_entries vol d (suc j) es
 
 -- the messages on a directory whose size isn't 0
 unfoldable pub sized_dir_lines : Volume → ℕ → List TreeMessage

@@ -49,5 +49,5 @@ abbrev pub type_of_kind : ℕ → ℕ
 type_of_kind k = if is_dir_kind k then DT_DIR else k
 
 -- x is a directory, by a list with a kind for each inode
-abbrev pub dir_at : List ℕ → ℕ → Bool
-dir_at kinds x = nat_le 2 x && is_dir_kind (number_at kinds x)
+abbrev pub is_dir_at : List ℕ → ℕ → Bool
+is_dir_at kinds x = nat_le 2 x && is_dir_kind (number_at kinds x)

@@ -1,6 +1,6 @@
 use Rattle.std.proofs.{Common.{arith, ap, ◌∙◌}, lemmas.Result.on_err_weaker}
 use Rattle.ffs_volume.specs.Blocks.{Claims.{at_next_inode}}
-use Rattle.ffs_volume.specs.{Blocks.{Owners.owner_of, Steps.steps_of}, Report.VolumeReads.indirect_in_steps}
+use Rattle.ffs_volume.specs.{Blocks.{Owners.owner_of, Steps.steps_of}, Costs.VolumeReads.indirect_in_steps}
 use Rattle.ffs_report.{proofs.Reporting.{reads_first, reports_same}}
 use Rattle.ffs_workspace.{specs.{Holds.claims_of, Tables.TakesPiece}}
 use Rattle.ffs_claims.proofs.Frames.{stay}

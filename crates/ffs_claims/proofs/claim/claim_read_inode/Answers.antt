@@ -1,6 +1,6 @@
 use Rattle.std.proofs.{Common.{arith, refl, [], ap, ◌∙◌, ◌≡◌, sym}, lemmas.Result.err_from_is_err_and}
 use Rattle.ffs_volume.{proofs.Potentials.kept_bound, specs.Blocks.{Claims.{after_steps, at_next_inode}, Steps.steps_of}}
-use Rattle.ffs_volume.specs.{Report.VolumeReads.indirect_in_steps, declared.Class.TheVariants.Free}
+use Rattle.ffs_volume.specs.{Costs.VolumeReads.indirect_in_steps, declared.Class.TheVariants.Free}
 use Rattle.ffs_report.proofs.Reporting.{of_fault, of_says, of_stops, says_none}
 use Rattle.ffs_maps.proofs.Bits.{bits_long}
 use Rattle.ffs_workspace.specs.Holds.{claims_of}

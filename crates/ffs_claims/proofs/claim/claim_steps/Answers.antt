@@ -3,7 +3,7 @@ use Rattle.std.proofs.lemmas.Result.{err_from_is_err_and}
 use Rattle.ffs_volume.{proofs.Potentials.moves_then}
 use Rattle.ffs_volume.specs.Blocks.Claims.{after_step, after_steps, lines_of_steps, is_open}
 use Rattle.ffs_volume.specs.Blocks.Steps.{steps_of}
-use Rattle.ffs_volume.specs.{declared.Step.TheVariants.Gap, Report.VolumeReads.indirect_in_steps}
+use Rattle.ffs_volume.specs.{declared.Step.TheVariants.Gap, Costs.VolumeReads.indirect_in_steps}
 use Rattle.ffs_report.proofs.Reporting.{of_begins, of_stops, of_reads, of_same, says_none}
 use Rattle.ffs_image.specs.Known.{ForBytes}
 use Rattle.ffs_image.specs.Known.{IsContents}

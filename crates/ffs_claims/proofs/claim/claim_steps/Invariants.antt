@@ -1,6 +1,6 @@
 use Rattle.std.proofs.Common.{◌≡◌, ◌+◌, ◌≤◌, true}
 use Rattle.ffs_volume.specs.Blocks.{Claims.after_steps, Claims.lines_of_steps, Claims.is_open, Steps.steps_of}
-use Rattle.ffs_volume.specs.Report.VolumeReads.{indirect_in_steps}
+use Rattle.ffs_volume.specs.Costs.VolumeReads.{indirect_in_steps}
 use Rattle.ffs_report.specs.{PhaseOutcome.SaidOf, Progress.progress}
 use Rattle.ffs_image.specs.Known.{ForBytes, IsContents}
 use Rattle.ffs_walk.specs.{Counts.AreHeld, Counts.unread, Rests.steps_left, Rests.most_steps_left}

@@ -4,7 +4,8 @@ use Rattle.ffs_report.proofs.Paying.{paid_none, paid_reads, paid_stops}
 use Rattle.ffs_image.specs.Known.{ForBytes}
 use Rattle.ffs_report.proofs.Reporting.{reads_first, says_none, stops_all}
 use Rattle.ffs_workspace.{specs.Found.WithSurvey, proofs.TablePlaces.fails_in_table}
-use Rattle.ffs_connectivity.{specs.Lines.unref_dir_lines, proofs.UnrefLines.{attributes_are, unref_dir_is, one_line}}
+use Rattle.ffs_volume.specs.Directories.Connectivity.{unref_dir_lines}
+use Rattle.ffs_connectivity.proofs.UnrefLines.{attributes_are, unref_dir_is, one_line}
 use Rattle.ffs_connectivity.proofs.{UnrefLines.{silent, heard}, lost.report_lost.Goals.After-is_unref-unref}
 use Rattle.ffs_connectivity.proofs.lost.report_lost.Goals.{After-of}
 use Rattle.ffs_connectivity.proofs.lost.report_lost.Given as given

@@ -8,7 +8,8 @@ use Rattle.ffs_report.proofs.Reporting.{heading_alone, heading_part, stops_headi
 use Rattle.ffs_workspace.{specs.{Found.WithSurvey, declared.workspace.Workspace.Workspace}, proofs.PlaceLaws.filled_noted}
 use Rattle.ffs_volume.specs.Blocks.Inodes.{inodes_of}
 use Rattle.ffs_workspace.proofs.Leaving.{claims_left, survey_left, leaves_more, windows_leave}
-use Rattle.ffs_connectivity.{specs.Lines.unref_dir_lines, proofs.UnrefLines.{leaders_held, lines_after, lines_begin}}
+use Rattle.ffs_volume.specs.Directories.Connectivity.{unref_dir_lines}
+use Rattle.ffs_connectivity.proofs.UnrefLines.{leaders_held, lines_after, lines_begin}
 use Rattle.ffs_connectivity.proofs.pass3.phase3.Goals.{At-loop-number}
 use Rattle.ffs_connectivity.proofs.pass3.phase3.Given as given
 use Rattle.ffs_connectivity.proofs.pass3.phase3.Goals as goal

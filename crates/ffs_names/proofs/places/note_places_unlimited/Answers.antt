@@ -1,7 +1,7 @@
 use Rattle.std.proofs.Common.{◌≡◌, ◌≢◌, ◌<◌, ◌≤◌, ◌==◌, ◌&&◌, nat_lt, List, ◌*◌, ◌+◌, ◌∙◌, false, true, suc, ℕ, ap, arith, below_more, length, refl}
 use Rattle.std.proofs.{Common.{rules, slice_index, slice_set, sym}, lemmas.Grind.{common_steps, get_or_default_zero}}
 use Rattle.std.proofs.lemmas.{Bool.Decides.nat_tests, Result.err_from_is_err_and}
-use Rattle.ffs_volume.{proofs.Sizes.some_inodes, specs.{Blocks.Inodes.inodes_of, Report.DirectoryReads.sweep_cost}}
+use Rattle.ffs_volume.{proofs.Sizes.some_inodes, specs.{Blocks.Inodes.inodes_of, Costs.DirectoryReads.sweep_cost}}
 use Rattle.ffs_workspace.specs.declared.workspace.Workspace.{Workspace}
 use Rattle.ffs_volume.specs.Encodings.Places.{is_due as is_to_be_read, part_in}
 use Rattle.ffs_survey.proofs.Costs.{cost_take, costs_rise}

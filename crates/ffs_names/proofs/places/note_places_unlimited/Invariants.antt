@@ -1,8 +1,8 @@
 use Rattle.std.proofs.Common.{◌≡◌, ◌<◌, ◌≤◌, ◌+◌, ℕ, false, slice_index}
 use Rattle.ffs_image.specs.Known.{ForBytes}
 use Rattle.ffs_workspace.specs.{Found.WithSurvey, Ready.CanRead}
-use Rattle.ffs_volume.specs.{Encodings.Places.{is_due as is_to_be_read, AreParts}, Report.DirectoryReads.costs_below}
-use Rattle.ffs_volume.specs.Report.DirectoryReads.{sweep_cost}
+use Rattle.ffs_volume.specs.{Encodings.Places.{is_due as is_to_be_read, AreParts}, Costs.DirectoryReads.costs_below}
+use Rattle.ffs_volume.specs.Costs.DirectoryReads.{sweep_cost}
 use Rattle.ffs_names.{specs.Noting.has_child, proofs.PlacesNoted.{AreComing, OnlyParents}}
 use Rattle.ffs_names.proofs.places.note_places_unlimited.Given as goal
 

@@ -6,7 +6,7 @@ use Rattle.ffs_volume.specs.{Directories.Volumes.volume_of, Messages.Kinds.of_tr
 use Rattle.ffs_workspace.specs.{Leaves.LeavesSurvey, declared.workspace.Workspace.Workspace}
 use Rattle.ffs_workspace.proofs.Leaving.{leaves_all, leaves_more, windows_leave}
 use Rattle.ffs_names.{specs.{Readings.rest, Costs.{to_read, HoldsReading}}, proofs.DirCosts.runs_are}
-use Rattle.ffs_volume.specs.Report.DirectoryReads.{directory_runs}
+use Rattle.ffs_volume.specs.Costs.DirectoryReads.{directory_runs}
 use Rattle.ffs_report.proofs.Reporting.{of_begins, of_reads, of_same, of_part, of_fault, said_knows, reports_knowing}
 use Rattle.ffs_report.proofs.Paying.{paid_beside, paid_failed, paid_none, paid_then, paid_within}
 use Rattle.ffs_pathnames.specs.{Gathers.passed_of, DirectoryContext.DirectoryContext, PassedNames.after_entries}

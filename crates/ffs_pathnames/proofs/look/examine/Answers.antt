@@ -1,7 +1,7 @@
 use Rattle.std.proofs.{Common.{◌∙◌, ◌≡◌, ◌≤◌, ◌+◌, ℕ, List, arith, false, sym}}
 use Rattle.ffs_image.{specs.{Limited.reads_asked}, proofs.Limits.read_over}
 use Rattle.ffs_workspace.proofs.Readiness.{can_read_same}
-use Rattle.ffs_volume.specs.Report.DirectoryReads.{directory_cost}
+use Rattle.ffs_volume.specs.Costs.DirectoryReads.{directory_cost}
 use Rattle.ffs_pathnames.{specs.DirectoryContext.DirectoryContext, proofs.Carrying.if_ok}
 use Rattle.ffs_pathnames.proofs.{LimitedLaws.{LookedBy, looked}, look.examine.{Given.Over, Goals.After-is_spent}}
 use Rattle.ffs_pathnames.proofs.look.examine.Goals as goal

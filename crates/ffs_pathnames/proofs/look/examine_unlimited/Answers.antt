@@ -1,6 +1,6 @@
 use Rattle.std.proofs.{Common.{◌≤◌, ◌+◌, ◌∙◌, ap, arith, refl, ℕ, List}}
 use Rattle.ffs_workspace.proofs.Leaving.{claims_held, survey_held}
-use Rattle.ffs_volume.specs.Report.DirectoryReads.{directory_cost}
+use Rattle.ffs_volume.specs.Costs.DirectoryReads.{directory_cost}
 use Rattle.ffs_pathnames.{specs.DirectoryContext.{DirectoryContext, KnowsDirectory}}
 use Rattle.ffs_pathnames.proofs.look.examine_unlimited.{Given.Over, Goals.After-look_directory}
 use Rattle.ffs_pathnames.proofs.look.examine_unlimited.Goals as goal

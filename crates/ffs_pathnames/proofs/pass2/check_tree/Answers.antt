@@ -9,7 +9,7 @@ use Rattle.ffs_pathnames.proofs.Carrying.{root_kind_is, root_marked_is, tree_is,
 use Rattle.ffs_pathnames.proofs.pass2.check_tree.{Given.Over, Goals.{After-report_root, After-check_directories}}
 use Rattle.ffs_pathnames.specs.{DirectoryLines.ReportsTree, RootAnswers.AnswersRoot}
 use Rattle.ffs_pathnames.{proofs.Begun.image_same, specs.{declared.pass2.Root.Root, ChecksNeeded.ChecksLookedAt}}
-use Rattle.ffs_volume.specs.Report.DirectoryReads.{directories_cost, looks_cost, places_cost}
+use Rattle.ffs_volume.specs.Costs.DirectoryReads.{directories_cost, looks_cost, places_cost}
 use Rattle.ffs_volume.specs.{Encodings.Kinds.is_dir_kind, Directories.{Roles.Volume, Volumes.volume_of}}
 use Rattle.ffs_volume.specs.Messages.Kinds.{of_tree, TreeMessage, Message, of_directory, stops_check}
 use Rattle.ffs_volume.specs.{Directories.PathnameCheck.{continues_after_root, pathname_lines}, Report.Reads.line_reads}

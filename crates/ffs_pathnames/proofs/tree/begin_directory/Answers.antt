@@ -3,7 +3,7 @@ use Rattle.std.proofs.lemmas.Result.{err_from_is_err_and}
 use Rattle.ffs_volume.specs.{Messages.Kinds.of_tree, Blocks.Inodes.inode_of, Directories.Volumes.volume_of}
 use Rattle.ffs_volume.specs.Directories.{Parents.graph_of, PathnameCheck.{attributes, attributes_of, dir_header_lines, header_defects}}
 use Rattle.ffs_volume.specs.{Directories.{PathnameCheck.header_lines, Paths.dir_path}, Report.Reads.line_reads}
-use Rattle.ffs_volume.specs.{Report.DirectoryReads.directory_cost, Encodings.Places.AreNoted}
+use Rattle.ffs_volume.specs.{Costs.DirectoryReads.directory_cost, Encodings.Places.AreNoted}
 use Rattle.ffs_report.proofs.{Reporting.{of_begins, of_reads}, Paying.{paid_answer, paid_failed, paid_beside}}
 use Rattle.ffs_report.proofs.Paying.{paid_fault, paid_none, paid_then}
 use Rattle.ffs_pathnames.specs.{ReadsLeft.LeftForLook, declared.look.Examination.Examination}

@@ -3,7 +3,7 @@ use Rattle.std.proofs.{Common.{ℕ, ◌≤◌, true}, lemmas.Result.err_from_is_
 use Rattle.ffs_volume.proofs.Numbered.{as_many, from_next, from_end, count_next as next_long}
 use Rattle.ffs_volume.specs.{Messages.Kinds.{of_tree, lines_from}, Directories.PathnameCheck.directory_lines}
 use Rattle.ffs_volume.specs.{Directories.Volumes.volume_of, Blocks.Inodes.inodes_of}
-use Rattle.ffs_volume.specs.Report.DirectoryReads.{directory_cost, sweep_costs, is_looked_at}
+use Rattle.ffs_volume.specs.Costs.DirectoryReads.{directory_cost, sweep_costs, is_looked_at}
 use Rattle.ffs_report.proofs.Reporting.{of_begins, of_same, of_part, of_fault, of_reads, said_knows, reports_knowing}
 use Rattle.ffs_report.proofs.Paying.{paid_failed, paid_none, paid_then, paid_within}
 use Rattle.ffs_workspace.proofs.Leaving.{queue_leaves}

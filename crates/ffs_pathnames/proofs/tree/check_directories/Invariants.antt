@@ -3,8 +3,8 @@ use Rattle.ffs_report.specs.{Paid.Paid, PhaseOutcome.SaidOf, Progress.progress}
 use Rattle.ffs_image.specs.Known.{ForBytes}
 use Rattle.ffs_volume.specs.{Messages.Kinds.{of_tree, lines_from}, Report.Reads.{line_reads, sweep_reads}}
 use Rattle.ffs_volume.specs.{Directories.{PathnameCheck.directory_lines, Volumes.volume_of}, Blocks.Inodes.inodes_of}
-use Rattle.ffs_volume.specs.Report.DirectoryReads.{is_looked_at, places_cost, costs_all, costs_below, directories_cost}
-use Rattle.ffs_volume.specs.Report.DirectoryReads.{directory_cost}
+use Rattle.ffs_volume.specs.Costs.DirectoryReads.{is_looked_at, places_cost, costs_all, costs_below, directories_cost}
+use Rattle.ffs_volume.specs.Costs.DirectoryReads.{directory_cost}
 use Rattle.ffs_pathnames.specs.{ChecksNeeded.ChecksLookedAt, Ready.ReadyWith, Before.{IsBefore, IsBeforeNoted}}
 use Rattle.ffs_workspace.specs.Leaves.{LeavesFindings}
 use Rattle.ffs_pathnames.proofs.tree.check_directories.Given as goal

@@ -3,7 +3,7 @@ use Rattle.std.proofs.{lemmas.{Bool.both_ways, Result.err_from_is_err_and}, Math
 use Rattle.ffs_image.specs.Device.{Device}
 use Rattle.ffs_volume.specs.{declared.Layout.Layout, Report.Reads.line_reads, Directories.PathnameCheck.sized_dir_lines}
 use Rattle.ffs_volume.specs.Directories.{PathnameCheck.dir_header_lines, Roles.roled_entries, Volumes.volume_of}
-use Rattle.ffs_volume.specs.Report.DirectoryReads.{directory_cost, directory_runs}
+use Rattle.ffs_volume.specs.Costs.DirectoryReads.{directory_cost, directory_runs}
 use Rattle.ffs_report.{specs.PhaseOutcome.ImageAfter, proofs.Reporting.{of_begins, of_part, of_fault, of_last}}
 use Rattle.ffs_report.proofs.{Reporting.{said_knows, reports_knowing}, Paying.{paid_answer, paid_fault, paid_then}}
 use Rattle.ffs_workspace.{specs.declared.workspace.Workspace.Workspace, proofs.Leaving.leaves_more}

@@ -3,7 +3,7 @@ use Rattle.std.proofs.lemmas.Result.{err_from_is_err_and}
 use Rattle.ffs_names.{proofs.{DirCosts.{cost_is}, DirLaws.{dir_is, dir_size, dir_seen}}, specs.Entering.to_come}
 use Rattle.ffs_names.specs.{Entering.last_name, Costs.reads_for_entries, Shapes.BeginsDirectory}
 use Rattle.ffs_names.specs.declared.entries.Entries.{Entries}
-use Rattle.ffs_volume.specs.{Report.DirectoryReads.directory_runs, declared.{Inode.Inode, Layout.Layout}}
+use Rattle.ffs_volume.specs.{Costs.DirectoryReads.directory_runs, declared.{Inode.Inode, Layout.Layout}}
 use Rattle.ffs_volume.specs.{Blocks.Inodes.inode_of, Laws.Geometry.IsAcceptedLayout, Directories.Roles.is_dir}
 use Rattle.ffs_volume.specs.{Directories.{Roles.roled_entries, Volumes.volume_of}, Encodings.Notes.cut_in}
 use Rattle.ffs_survey.specs.Reading.{roled_of}

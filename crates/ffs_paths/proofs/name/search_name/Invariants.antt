@@ -1,7 +1,7 @@
 use Rattle.std.proofs.Common.{◌≡◌, ◌≤◌, ◌+◌, [], Ok}
 use Rattle.ffs_image.specs.{Device.ForContents, Known.ForBytes}
 use Rattle.ffs_names.specs.{Costs.{HoldsEntries, reads_for_entries}, Entering.{to_come, most_to_come}}
-use Rattle.ffs_volume.specs.Report.DirectoryReads.{directory_runs}
+use Rattle.ffs_volume.specs.Costs.DirectoryReads.{directory_runs}
 use Rattle.ffs_workspace.specs.Found.{WithClaims}
 use Rattle.ffs_paths.specs.{Climbing.name_in, NameTexts.name_bytes, Reads.OnlyReads}
 use Rattle.ffs_paths.proofs.name.search_name.Given as goal

@@ -4,7 +4,7 @@ use Rattle.ffs_survey.proofs.{CalmLaws.{calm_step, read_whole}, Discovered.{bit-
 use Rattle.ffs_survey.proofs.{Lending.{same_kinds, queue_long}, Queues.{extends_on, keeps_queue}, Totals.entry_counted}
 use Rattle.ffs_survey.proofs.Remaining.{discovered_same, discovered_whole}
 use Rattle.ffs_survey.specs.{Lent.current_in, Reading.roled_of, Survey.{bool_at, number_at}}
-use Rattle.ffs_volume.specs.Directories.Calm.{is_calm_entry}
+use Rattle.ffs_volume.specs.Costs.Calm.{is_calm_entry}
 use Rattle.ffs_survey.proofs.discover.read_reached.Goals.{then-calm_so_far, else-calm_so_far}
 use Rattle.ffs_survey.proofs.discover.read_reached.Goals as goal
 

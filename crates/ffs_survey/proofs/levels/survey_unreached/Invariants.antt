@@ -1,6 +1,6 @@
 use Rattle.std.proofs.Common.{ℕ, ◌+◌, ◌*◌, ◌<◌, ◌≤◌, ◌^◌, List, length}
 use Rattle.ffs_survey.specs.{Lent.{KeepsReached, all_found}, Survey.{number_at, graph_with}}
-use Rattle.ffs_volume.specs.Report.DirectoryReads.{costs_below}
+use Rattle.ffs_volume.specs.Costs.DirectoryReads.{costs_below}
 use Rattle.ffs_survey.{specs.Discover.{IsBlank, IsRead, is_unreached_dir}, proofs.Lending.StillLent}
 use Rattle.ffs_survey.proofs.levels.survey_unreached.Given as goal
 

@@ -1,12 +1,12 @@
 use Rattle.std.proofs.{Common.{◌≡◌, ℕ, Bool, List, arith, ◌∙◌, sym, true, false, ◌≢◌}, lemmas.{Bool.ne_eqb, List.get_or_read}}
-use Rattle.ffs_volume.{proofs.Unreached.IsLost, specs.Directories.Graph.{Graph, is_dead_in}}
+use Rattle.ffs_volume.{proofs.Unreached.IsLost, specs.Directories.{Graph.Graph, Connectivity.is_dead_in}}
 use Rattle.ffs_survey.{proofs.UnrefLaws.{dead_is, unref_is, parent-below}, specs.Survey.{IsTree, bool_at, suspect_at}}
-use Rattle.ffs_volume.specs.Encodings.Kinds.{dir_at}
+use Rattle.ffs_volume.specs.Encodings.Kinds.{is_dir_at}
 use Rattle.ffs_survey.proofs.unref.is_unref.Goals as goal
 
 -- a directory that passed the first four tests
 is_lost : {v : Graph} {suspect : ℕ → Bool} {kinds : List ℕ} {reached : List Bool} {parents : List ℕ} {d : ℕ} →
-    IsTree v kinds reached parents → dir_at kinds d ≡ true → d ≢ 2 → bool_at reached d ≡ false →
+    IsTree v kinds reached parents → is_dir_at kinds d ≡ true → d ≢ 2 → bool_at reached d ≡ false →
     is_dead_in v suspect d ≡ false → IsLost v suspect d
 is_lost {d = d} t dir other off alive = grind arith
 

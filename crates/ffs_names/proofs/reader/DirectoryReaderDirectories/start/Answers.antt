@@ -1,7 +1,7 @@
 use Rattle.std.proofs.Common.{◌∙◌, ◌≡◌, ℕ, Bool, List, Result, OnOk, true, ◌&&◌, ap, arith, if◌then◌else◌, slice_index, sym, []}
 use Rattle.std.proofs.lemmas.{Grind.{common_steps, get_or_default_zero}, Result.err_from_is_err_and}
 use Rattle.ffs_volume.specs.{Directories.{Roles.{is_dir, roled_entries}, Volumes.volume_of}, Encodings.Kinds.kind_at}
-use Rattle.ffs_volume.{proofs.Results.on_ok, specs.{Encodings.Notes.note_at, Directories.Calm.is_right_shape}}
+use Rattle.ffs_volume.{proofs.Results.on_ok, specs.{Encodings.Notes.note_at, Costs.Calm.is_right_shape}}
 use Rattle.ffs_names.proofs.{DirCosts.{inode_read, noted_is}, DirLaws.kind_dirs, NotedDirs.{read_by_chunk, read_by_cut}}
 use Rattle.ffs_names.proofs.{NotedDirs.ready_read, reader.DirectoryReaderDirectories.start.Goals.After-address_in}
 use Rattle.ffs_names.proofs.reader.DirectoryReaderDirectories.start.Given as given

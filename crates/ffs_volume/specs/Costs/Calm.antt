@@ -5,7 +5,7 @@ use Rattle.ffs_volume.specs.declared.constants.TheConstants.{WINO, ROOTINO, DT_D
 use Rattle.ffs_volume.specs.declared.{constants.TheConstants.{DIRBLKSIZ, MINDIRSIZE}, Layout.Layout}
 use Rattle.ffs_volume.specs.declared.Role.{Role, TheVariants.{Empty, Dot, Dotdot, Extra, Plain}}
 use Rattle.ffs_volume.specs.{Blocks.Inodes.inodes_of, Encodings.Lists.{bool_at, number_at}}
-use Rattle.ffs_volume.specs.Encodings.Kinds.{dir_at, is_allocated_kind, kind_at}
+use Rattle.ffs_volume.specs.Encodings.Kinds.{is_dir_at, is_allocated_kind, kind_at}
 use Rattle.ffs_volume.specs.Directories.{Graph.{is_naming_entry, parent, reached}, Parents.graph_of, PathnameCheck.are_sound}
 use Rattle.ffs_volume.specs.Directories.{Roles.{RoledEntry, Volume, is_dir, roled_entries}, Volumes.{marked_at, volume_of}}
 
@@ -58,7 +58,7 @@ is_calm_entry current reached i e = is_calm_role current reached i e.role e.entr
 
 -- what is reached after an entry: a directory that it names, too
 abbrev pub reached_after : List ℕ → (ℕ → Bool) → RoledEntry → ℕ → Bool
-reached_after kinds reached e x = reached x || (dir_at kinds x && is_naming_entry x e)
+reached_after kinds reached e x = reached x || (is_dir_at kinds x && is_naming_entry x e)
 
 -- all entries from an index on, where this is reached before them; the first two aren't missing
 abbrev pub are_calm : CurrentDir → (ℕ → Bool) → ℕ → List RoledEntry → Bool

@@ -5,7 +5,7 @@ use Rattle.ffs_volume.specs.declared.{Layout.Layout, Step.{Step, TheVariants.{Ru
 use Rattle.ffs_volume.specs.Blocks.{Claims.{Claims, after_owner, after_step, at_next_inode, is_open, no_claims}}
 use Rattle.ffs_volume.specs.{Blocks.Owners.{Owner, owners_of}, Report.Reads.table_blocks}
 use Rattle.std.specs.Prelude.{Bool, length, ◌*◌}
-use Rattle.ffs_volume.specs.{Blocks.BlockCheck.has_rescan, Report.DirectoryReads.phase2_cost}
+use Rattle.ffs_volume.specs.{Blocks.BlockCheck.has_rescan, Costs.DirectoryReads.phase2_cost}
 use Rattle.ffs_volume.specs.Directories.{Connectivity.connectivity_lines, ReferenceCheck.reference_lines}
 use Rattle.ffs_volume.specs.Directories.{PathnameCheck.{continues_after_root, pathname_lines}, Volumes.volume_of}
 use Rattle.ffs_volume.specs.Report.Reads.{group_reads, line_reads}

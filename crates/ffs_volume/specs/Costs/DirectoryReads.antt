@@ -2,7 +2,7 @@
 use Rattle.std.specs.Prelude.{ℕ, zero, suc, ◌+◌, ◌*◌, Bool, true, not, ◌&&◌, ◌||◌, nat_lt, cond, List, if◌then◌else◌}
 use Rattle.ffs_volume.specs.{declared.Layout.Layout, Disk.Search.some_below}
 use Rattle.ffs_volume.specs.Blocks.{Inodes.{inode_of, inodes_of}, Steps.steps_of}
-use Rattle.ffs_volume.specs.Directories.{Calm.is_calm_directory, PathnameCheck.is_sized_dir, Roles.is_dir}
+use Rattle.ffs_volume.specs.{Costs.Calm.is_calm_directory, Directories.{PathnameCheck.is_sized_dir, Roles.is_dir}}
 use Rattle.ffs_volume.specs.Directories.Volumes.{marked_at, volume_of}
 use Rattle.ffs_volume.specs.Encodings.{Notes.{first_noted, note_at}, Replay.{cut_at, fresh_replay}}
 use Rattle.ffs_volume.specs.Encodings.ReplayCounts.{replayed_runs}
