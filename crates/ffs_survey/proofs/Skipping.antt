@@ -1,7 +1,7 @@
 -- What is found doesn't change where empty entries are passed over.
-use Rattle.std.proofs.Common.{◌≡◌, ℕ, zero, suc, ◌+◌, ◌≤◌, ◌&&◌, Bool, true, false, nat_le, List, [], ◌∷◌, sym, ap, arith}
+use Rattle.std.proofs.Common.{◌≡◌, ℕ, zero, suc, ◌+◌, ◌≤◌, ◌&&◌, Bool, true, false, nat_le, List, [], ◌∷◌, sym, refl, ap, arith}
 use mathlib.Core.Path.{fun_ext}
-use Rattle.std.proofs.lemmas.Bool.Decides.nat_tests
+use Rattle.std.proofs.lemmas.Bool.Decides.{nat_tests}
 use Rattle.ffs_volume.specs.Costs.Calm.{CurrentDir, are_calm, reached_after}
 use Rattle.ffs_volume.specs.{Directories.Roles.RoledEntry, declared.Role.TheVariants.Empty}
 use Rattle.ffs_survey.specs.{Discover.{any_in, count_in, from_entries}, Reading.SkipsEmpty}
@@ -47,7 +47,7 @@ calm_late : {total : Bool} (late calm : Bool) (s : CurrentDir) (reached : ℕ �
     (rest rest' : List RoledEntry) → late ≡ nat_le 2 i → SkipsEmpty (suc n) (e ∷ rest) rest' →
     (calm && are_calm s reached i (e ∷ rest)) ≡ total → ((calm && late) && are_calm s reached (i + suc n) rest') ≡ total
 calm_late true calm s reached n i e rest rest' is skips whole =
-    let late : 2 ≤ i = omega (arith, nat_tests, is) in
+    let late : 2 ≤ i = grind (arith, nat_tests) in
     let skipped = calm_skipped s reached (suc n) i (e ∷ rest) rest' skips late in
     grind arith
 calm_late false calm s reached n i e rest rest' is skips whole = let empty = skips.0 in grind arith
@@ -57,4 +57,5 @@ pub calm_over : {total : Bool} (calm : Bool) (s : CurrentDir) (reached : ℕ →
     (calm && are_calm s reached i (e ∷ rest)) ≡ total →
     ((calm && nat_le 2 i) && are_calm s reached (i + (1 + n)) rest') ≡ total
 calm_over calm s reached n i e rest rest' empty skips whole =
-    calm_late (nat_le 2 i) calm s reached n i e rest rest' refl (empty, skips) whole
+    let next : i + (1 + n) ≡ i + suc n = omega arith in
+    rw next (calm_late (nat_le 2 i) calm s reached n i e rest rest' refl (empty, skips) whole)

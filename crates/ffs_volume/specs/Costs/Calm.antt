@@ -1,17 +1,17 @@
 -- Calm directories: those of which phase 2 can report nothing, by what a survey sees where it reads them.
-use Rattle.std.specs.Prelude.{ℕ, suc, ◌%◌, ◌==◌, Bool, false, not, ◌&&◌, ◌||◌, nat_le, nat_lt, List, [], ◌∷◌, length, map}
+use Rattle.std.specs.Prelude.{ℕ, suc, ◌==◌, Bool, false, not, ◌&&◌, ◌||◌, nat_le, nat_lt, List, [], ◌∷◌, length, map}
 use Rattle.std.specs.{List.range_with_len, Option.unwrap_or}
 use Rattle.ffs_volume.specs.declared.constants.TheConstants.{WINO, ROOTINO, DT_DIR, DT_WHT, EMPTY_DIR_KIND, UNKNOWN_KIND}
-use Rattle.ffs_volume.specs.declared.{constants.TheConstants.{DIRBLKSIZ, MINDIRSIZE}, Layout.Layout}
-use Rattle.ffs_volume.specs.declared.Role.{Role, TheVariants.{Empty, Dot, Dotdot, Extra, Plain}}
+use Rattle.ffs_volume.specs.declared.{Layout.Layout, Role.{Role, TheVariants.{Empty, Dot, Dotdot, Extra, Plain}}}
 use Rattle.ffs_volume.specs.{Blocks.Inodes.inodes_of, Encodings.Lists.{bool_at, number_at}}
 use Rattle.ffs_volume.specs.Encodings.Kinds.{is_dir_at, is_allocated_kind, kind_at}
-use Rattle.ffs_volume.specs.Directories.{Graph.{is_naming_entry, parent, reached}, Parents.graph_of, PathnameCheck.are_sound}
+use Rattle.ffs_volume.specs.Directories.{Graph.{is_naming_entry, parent, reached}, Parents.graph_of}
+use Rattle.ffs_volume.specs.Directories.PathnameCheck.{are_sound, has_partial_chunk, is_short}
 use Rattle.ffs_volume.specs.Directories.{Roles.{RoledEntry, Volume, is_dir, roled_entries}, Volumes.{marked_at, volume_of}}
 
 -- the size of a directory is right: it has room for `.` and `..`, and is in whole chunks
 abbrev pub is_right_size : ℕ → Bool
-is_right_size size = not (nat_lt size MINDIRSIZE) && (size % DIRBLKSIZ == 0)
+is_right_size size = not (is_short size) && not (has_partial_chunk size)
 
 -- the size of inode d is right, each of its chunks is sound, and none of its Gaps is kept
 abbrev pub is_right_shape : Volume → ℕ → Bool
