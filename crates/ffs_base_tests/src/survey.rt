@@ -8,7 +8,7 @@ use ffs_memory::{FilledList, Memory, SystemMemory};
 use ffs_samples::{flags, numbers, set_first_filled};
 use ffs_survey::{
     Directories, EntryHead, FoundLists, KnownInodes, Surveyed, flag_leaders, is_dead, is_dir,
-    is_suspect, is_unref, may_be_unreached, survey,
+    is_suspect, is_unref, may_be_unreached, survey_directories,
 };
 use ffs_volume::Role;
 use std::alloc::{AllocError, Global};
@@ -204,7 +204,7 @@ fn left_by_survey(alloc: Global) -> Result<Left, Fail> {
         calm: &mut calm,
         queue: &mut queue,
     };
-    survey(&mut listed, &inodes, &mut found)?;
+    survey_directories(&mut listed, &inodes, &mut found)?;
     Ok(Left {
         references: firsts_of(&references, 0),
         parents: firsts_of(&parents, 0),

@@ -19,7 +19,8 @@
 //! - `one_chunk` makes the inode of a directory whose only chunk is noted.
 //! - `chunk_entries` gives the entries of a chunk, and `entries` those of a directory.
 //! - `reader` is what a survey goes over: the directories of an image.
-//! - `surveying` is the survey: `ffs_survey::survey` with that reader and the workspace's lists.
+//! - `surveying` is the survey: `survey_directories` of `ffs_survey` with that reader and the
+//!   workspace's lists.
 //! - `places` notes where parent entries are.
 //!
 //! It rests on `ffs_survey`, `ffs_workspace` and `ffs_walk`.

@@ -11,7 +11,7 @@ use crate::entries::Entries;
 use crate::reader::DirectoryReader;
 use ffs_image::{Image, ImageFault, LimitedImage};
 use ffs_layout::Geometry;
-use ffs_survey::{FoundLists, KnownInodes};
+use ffs_survey::{FoundLists, KnownInodes, survey_directories};
 use ffs_workspace::{Workspace, sweep_reads};
 
 /// As `survey`, of a workspace that has none yet, with no limit on reads.
@@ -53,7 +53,7 @@ fn survey_unlimited<I: Image>(
         calm: &mut workspace.flags,
         queue: &mut workspace.queue,
     };
-    let surveyed = ffs_survey::survey(&mut reader, &inodes, &mut found);
+    let surveyed = survey_directories(&mut reader, &inodes, &mut found);
     // No place of a parent entry is noted yet.
     workspace.queue.fill(0);
     workspace.surveyed = surveyed.is_ok();

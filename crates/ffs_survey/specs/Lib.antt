@@ -2,7 +2,7 @@
 -- and sees no byte: ffs_names has the reader over an image. The public calls, what their clauses are, and in which
 -- files:
 --
---   survey                     FindsSurvey (`Levels`), KeepsLists and LeavesDirectories (`Lent`)
+--   survey_directories         FindsSurvey (`Levels`), KeepsLists and LeavesDirectories (`Lent`)
 --   flag_leaders               FlagsEachLeader (`Cycles`)
 --   is_suspect, is_dead        suspect_at, dead_at (`Survey`)
 --   is_unref                   is_unref_dir_in of the book, by AreNamed and IsTree (`Survey`)

@@ -1,16 +1,16 @@
 //! A survey of directories: which inodes are reached from inode 2, the parent of each directory,
 //! and how many entries refer to each inode. It works over any reader of directories
-//! (`Directories`), and holds no entry. `ffs_names::survey` calls it, over the directories of an
-//! image, and is the one that phase 2 calls.
+//! (`Directories`), and holds no entry. `survey` of `ffs_names` is the survey of the directories of
+//! an image, which phase 2 calls.
 //!
-//! `survey` goes by `KnownInodes`, is given each entry as an `EntryHead`, and leaves in
+//! `survey_directories` goes by `KnownInodes`, is given each entry as an `EntryHead`, and leaves in
 //! `FoundLists` what is reached, parents and references as the definitions have them;
 //! `may_be_unreached` says whether a directory may be unreached, and `flag_leaders` flags one
 //! directory of each cycle of parents. `is_plain` asks this of an entry, `is_dir`, `is_suspect` and
 //! `is_dead` of an inode, and `is_unref` of a directory, by all that was `Surveyed`.
 //!
 //! ```text
-//! survey(&mut directories, &inodes, &mut found)?;
+//! survey_directories(&mut directories, &inodes, &mut found)?;
 //! ```
 //!
 //! Its modules, each over those before it:
@@ -45,7 +45,7 @@ mod unref;
 pub use cycles::flag_leaders;
 pub use directories::Directories;
 pub use entry_head::{EntryHead, is_plain};
-pub use levels::{may_be_unreached, survey};
+pub use levels::{may_be_unreached, survey_directories};
 pub use lists::{FoundLists, KnownInodes, Surveyed};
 pub use numbers::is_dir;
 pub use unref::{is_dead, is_suspect, is_unref};

@@ -4,7 +4,7 @@ use Rattle.ffs_survey.proofs.{Lending.{finds_same, kinds_long, same_kinds}, Unre
 use Rattle.ffs_survey.proofs.UnreachedLaws.{unreached_blank}
 use Rattle.ffs_survey.proofs.ReadOnce.{flagged_by_parents, read_once_stays}
 use Rattle.ffs_survey.specs.Lent.{all_found}
-use Rattle.ffs_survey.proofs.levels.survey.Goals as goal
+use Rattle.ffs_survey.proofs.levels.survey_directories.Goals as goal
 
 pub returns-clause-found : goal.returns-clause-found
 returns-clause-found g c =
