@@ -22,7 +22,7 @@ use Rattle.ffs_check.specs.{PhaseEnds.{HaveRun, AnswersAfterPhases, SaidWhole}}
 use Rattle.ffs_volume.specs.Report.Whole.{phase1_messages, phase1b_messages_if_dups, phase2_messages, phase3_messages, phase4_messages, phase5_messages}
 use Rattle.ffs_volume.specs.Report.Whole.{summary_messages}
 use Rattle.ffs_check.proofs.RestOfText.{from_phase2, after_phase2}
-use Rattle.ffs_check.specs.Phases.{AnswersDups, RescanLeaves, RescanReadsWithin, WithLeftByPhase1}
+use Rattle.ffs_check.specs.Rescan.{AnswersDups, RescanLeaves, RescanReadsWithin, WithLeftByPhase1}
 use Rattle.ffs_check.{proofs.Answering.{answers_stay, unanswered}, specs.Reads.{PhasesPay}}
 use Rattle.ffs_check.proofs.VolumeReading.{text_parts}
 use Rattle.ffs_counts.specs.Summary.{SaysSummary}
