@@ -38,5 +38,5 @@ ffs_find = record {
   asks = AskForCommand;
   refuses = IsFindText;
   lacks_memory = LacksMemory find_program;
-  looks = λ name. IsFoundIn;
+  carries_out = λ name. IsFoundIn;
 }
