@@ -3,7 +3,7 @@ use Rattle.ffs_volume.specs.{declared.Layout.Layout, Disk.Numbers.piece, Groups.
 use Rattle.ffs_volume.{proofs.AreaLaws.group_below, specs.Find.Owner.{group_of_fragment, map_text}}
 use Rattle.ffs_counts.proofs.RecordPlaces.{block_inside}
 use Rattle.ffs_finding.{specs.Keepers.map_lines, proofs.Printing.{one, one_broken, prints_all, reads_first, stops_all}}
-use Rattle.ffs_finding.proofs.owner.print_unclaimed.Goals as goal
+use Rattle.ffs_finding.proofs.owner.find_unclaimed.Goals as goal
 
 pub fill-requires : goal.fill-requires
 fill-requires g c = grind (arith, block_inside, group_below)
