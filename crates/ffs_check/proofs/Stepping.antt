@@ -1,7 +1,7 @@
 -- One phase after another: for each phase a lemma on the stage that it leaves, and one on a fault in it.
 use Rattle.std.proofs.Common.{◌≡◌, ◌<◌, ◌≤◌, ◌+◌, ◌*◌, ◌∙◌, sym, ap, ℕ, List, [], ◌∷◌, ◌++◌, length, append_assoc}
 use Rattle.std.proofs.Common.{append-nil, arith, refl, Bool, true, false, not, Ok, Err, inl, inr, map}
-use Rattle.std.proofs.{Common.{subst, OnErr, OnOk, None, Result}}
+use Rattle.std.proofs.{Common.{subst, OnErr, OnOk, None, Result}, lemmas.Result.on_err_weaker}
 use Rattle.ffs_image.specs.Device.{Device}
 use Rattle.ffs_volume.specs.{Disk.Superblock.Superblock, Directories.Volumes.volume_of}
 use Rattle.ffs_volume.specs.{Messages.Kinds.{Message}}
@@ -22,7 +22,7 @@ use Rattle.ffs_check.specs.{PhaseEnds.{HaveRun, AnswersAfterPhases, SaidWhole}}
 use Rattle.ffs_volume.specs.Report.Whole.{phase1_messages, phase1b_messages_if_dups, phase2_messages, phase3_messages, phase4_messages, phase5_messages}
 use Rattle.ffs_volume.specs.Report.Whole.{summary_messages}
 use Rattle.ffs_check.proofs.RestOfText.{from_phase2, after_phase2}
-use Rattle.ffs_check.specs.Phases.{AnswersDups, RescanLeaves, RescanReadsWithin, WithLeftByPhase1}
+use Rattle.ffs_check.specs.Rescan.{AnswersDups, RescanLeaves, RescanReadsWithin, WithLeftByPhase1}
 use Rattle.ffs_check.{proofs.Answering.{answers_stay, unanswered}, specs.Reads.{PhasesPay}}
 use Rattle.ffs_check.proofs.VolumeReading.{text_parts}
 use Rattle.ffs_counts.specs.Summary.{SaysSummary}
@@ -35,7 +35,7 @@ use Rattle.ffs_workspace.proofs.Leaving.{claims_held, claims_left, references_le
 use Rattle.ffs_check.proofs.Stages.{some_more, more_after, root_or_more, Left, each, Point, Given, Stage, report_at}
 use Rattle.ffs_check.proofs.Stages.{RunsPhases, Spends, Ran, begun, phase1_done, phase1b_done, Rooted, phase2_done}
 use Rattle.ffs_check.proofs.Stages.{phase3_done, phase4_done, phase5_done, root_stays, windows_stay, at_err}
-use Rattle.ffs_check.proofs.Stages.{then_err, with_ok, spends_left, spends_lines, IsClaimed, spends_names}
+use Rattle.ffs_check.proofs.Stages.{with_ok, spends_left, spends_lines, IsClaimed, spends_names}
 use Rattle.ffs_check.proofs.Stages.{spends_knowing, within_both, whole_said}
 
 -- the next point, or the end of all where a phase answers a fault
@@ -173,7 +173,7 @@ module _ (s : Superblock) where
       (λ bytes k. text_parts bytes s)
       (λ bytes k. more_after (phase1b_messages_if_dups s.layout bytes) (from_phase2 bytes s) (some_more phase2 _))
       (with_ok _ r (scan.runs, ap (λ (w : Workspace). w.runs_again) stays.changes.only) leaves)
-      (then_err _ r (λ same. λ bytes k. inl same) stays.has_dups) scan.runs ready
+      (on_err_weaker r (λ same. λ bytes k. inl same) stays.has_dups) scan.runs ready
 
   rescanned : {d on on' : Device} {w u u' : Workspace} {start report : Progress} {reads now : ℕ}
       (r : Result (Unit {0}) RunFault) → Stage s d w start reads (phase1_done s w u) on report now →

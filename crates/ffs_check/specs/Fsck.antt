@@ -20,5 +20,5 @@ fsck_ffs = record {
   asks = AskFor;
   refuses = IsTextFor fsck_program refusal_text;
   lacks_memory = LacksMemory fsck_program;
-  looks = IsChecked;
+  carries_out = IsChecked;
 }

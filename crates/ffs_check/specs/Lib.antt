@@ -28,9 +28,9 @@
 -- writes failed, `Taken` what is taken of the memory, `Reads` how often the image is read, and `Costs` the last two of
 -- any image.
 --
--- Its parts: `Opening` is about the text before the phases; `Phases` has what phase 1b leaves and reads, and what a
--- workspace answers after a check; `PhaseEnds` is about all phases, and about what follows an accepted superblock
--- (FollowsAccepted of `check_accepted`).
+-- Its parts: `Opening` is about the text before the phases; `Rescan` has what phase 1b leaves and reads, and what a
+-- workspace answers after a check of its DUP lines and Runs; `PhaseEnds` is about all phases, and about what follows an
+-- accepted superblock (FollowsAccepted of `check_accepted`).
 --
 -- The programs: `Program` is what a program says of itself, `CommandWords` what its words ask for, `Refusals` what is
 -- written where they are wrong, `Run` how a run of any program ends, and `Fsck` what `fsck_ffs` says of itself.
@@ -43,7 +43,7 @@ pub mod Taken
 pub mod Reads
 pub mod Costs
 pub mod Opening
-pub mod Phases
+pub mod Rescan
 pub mod PhaseEnds
 pub mod Program
 pub mod CommandWords

@@ -1,4 +1,4 @@
--- A moment of a look at an image: what contracts say of the time before a call, and of that after it.
+-- A moment of the work on an image: what contracts say of the time before a call, and of that after it.
 use Rattle.std.specs.Prelude.{ℕ}
 use Rattle.ffs_image.specs.Device.{Device}
 use Rattle.ffs_image.specs.declared.image.Image as image

@@ -20,7 +20,7 @@ use Rattle.ffs_memory.specs.Account.{Account}
 use Rattle.ffs_workspace.specs.{declared.workspace.Workspace.Workspace, Found.WithFresh, Lengths.IsFor, Ready.IsReady}
 use Rattle.ffs_check.specs.{Ends.{Cut, Ends}, Headings.TookSections, Reads.PhasesRead}
 use Rattle.ffs_volume.specs.Report.Headings.{HasSections, all_headings, headings_before}
-use Rattle.ffs_check.specs.Phases.{AnswersDups, HasAnswers}
+use Rattle.ffs_check.specs.Rescan.{AnswersDups, HasAnswers}
 use Rattle.ffs_check.specs.{Moment.{Moment, ReportMoment, at_output}, Taken.TakesBytes}
 
 -- a read failed before the text was complete: whole messages were said, and others were to come

@@ -1,4 +1,4 @@
--- What is written to standard error where a program looks at no image, by what `clap` answered of the words.
+-- What is written to standard error where a program opens no image, by what `clap` answered of the words.
 use Rattle.std.specs.{Prelude.{◌≡◌, ◌⊎◌, ◌∷◌, ◌++◌, ℕ, List, [], Option, Result, codes}, Io.KnownBytes.Appends}
 use Rattle.std.specs.declared.io.Error.{Error}
 use Rattle.clap.specs.{declared.error.kind.ErrorKind.ErrorKind, Words.{App, IsAmong, Text}}

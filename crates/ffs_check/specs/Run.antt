@@ -1,5 +1,5 @@
 -- What a run of a program prints, and its exit status, by the words after the program's name: 2
--- where the words are refused, 8 where the image isn't opened or memory lacked, else that of its look.
+-- where the words are refused, 8 where the image isn't opened or memory lacked, else that of what was carried out.
 use Rattle.std.specs.{Io.KnownBytes.Keeps, Prelude.{◌≡◌, ◌⊎◌, ℕ, List, [], ◌∷◌, ◌++◌, Option, Result, MatchResult}}
 use Rattle.std.specs.{Prelude.codes, declared.io.Error.Error}
 use Rattle.ffs_image.specs.Device.{Device}
@@ -45,13 +45,13 @@ pub record RunMoment (O : Type 0) : Type 0 where
 abbrev pub run_moment : {O : Type 0} → O → Sink → RunMoment O
 run_moment opener out = record { opener = opener; out = out }
 
--- an image was opened under a name, and a look at it ended as `looks` says
-pub record IsOpenedAndSeen {O : Type 0} (images : Images O) (name : List ℕ) (looks : Moment → Moment → ℕ → Type 0)
-    (old new : RunMoment O) (status : ℕ) : Type 0 where
+-- an image was opened under a name, and what is asked for was carried out on it, as `carries_out` says
+pub record IsCarriedOut {O : Type 0} (images : Images O) (name : List ℕ)
+    (carries_out : Moment → Moment → ℕ → Type 0) (old new : RunMoment O) (status : ℕ) : Type 0 where
   pub image : images.Image
   pub image' : images.Image
   pub opened : images.opens old.opener name image new.opener
-  pub seen : looks (record { image = images.device image; reads = images.reads image; out = old.out })
+  pub carried_out : carries_out (record { image = images.device image; reads = images.reads image; out = old.out })
       (record { image = images.device image'; reads = images.reads image'; out = new.out }) status
 
 -- no image could be opened under a name, and that was printed
@@ -61,20 +61,20 @@ pub record IsOpenFailure {O : Type 0} (images : Images O) (name : List ℕ) (old
   pub printed : IsPrintedOrBrokeOff old.out new.out (unopened_text name)
   pub status_is : status ≡ 8
 
--- the image of a name was looked at, or couldn't be opened
-abbrev pub LooksAtImageOf : {O : Type 0} → Images O → (name : List ℕ) → (Moment → Moment → ℕ → Type 0) →
+-- what is asked for was carried out on the image of a name, or the image couldn't be opened
+abbrev pub OpensAndCarriesOut : {O : Type 0} → Images O → (name : List ℕ) → (Moment → Moment → ℕ → Type 0) →
     (old new : RunMoment O) → ℕ → Type 0
-LooksAtImageOf images name looks old new status =
-    IsOpenedAndSeen images name looks old new status ⊎ IsOpenFailure images name old new status
+OpensAndCarriesOut images name carries_out old new status =
+    IsCarriedOut images name carries_out old new status ⊎ IsOpenFailure images name old new status
 
--- the words ask for something of the image of a name, and the program looked at that image, or it couldn't
+-- the words ask for something of the image of a name, and the program carried that out, or the image couldn't
 -- be opened. Nothing is opened beside it
 pub record RunsAsAsked {R O : Type 0} (program : Meaning R) (images : Images O) (words : List (List ℕ))
     (old new : RunMoment O) (status : ℕ) : Type 0 where
   pub name : List ℕ
   pub request : R
   pub asked : program.asks words name request
-  pub looked : LooksAtImageOf images name (program.looks name request) old new status
+  pub carried_out : OpensAndCarriesOut images name (program.carries_out name request) old new status
 
 -- the words are wrong, or ask for the help or the version, and the text for that was written, or a prefix of
 -- it where a write failed. Nothing is printed to the output, and no image is opened

@@ -36,7 +36,7 @@ impl Program for Fsck {
         }
     }
 
-    fn look<I: Image, W: Output>(
+    fn carry_out<I: Image, W: Output>(
         alloc: Global,
         image: &mut I,
         asked: &Asked<'_, Option<u32>>,

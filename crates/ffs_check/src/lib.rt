@@ -16,8 +16,8 @@
 //!
 //! - `check` is the whole check, and how it ends. `opening` says what comes before the phases, and
 //!   `phases` runs these one after another.
-//! - `run` goes from the words of a command line to a look at the image that they name, by any
-//!   `program`: `words` are those that programs have in common, `opener` opens the image, and
+//! - `run` goes from the words of a command line to what any `program` does with the image that
+//!   they name: `words` are those that programs have in common, `opener` opens the image, and
 //!   `refusal` writes why none is opened. `start` makes the process of a program: its words, its
 //!   streams, and its status. A program is started by `start`, which calls `run_program`;
 //!   `run_over` and `run` are the same at `Fsck`, for callers of the library.

@@ -1,5 +1,5 @@
 //! What the programs have in common: each reads its words, opens the image that they name, and
-//! looks at it. `run` runs one, and `specs/Program.antt` says what each promises.
+//! carries out what they ask for. `run` runs one, and `specs/Program.antt` says what each promises.
 ghost use Rattle.std.specs.Prelude.{◌≡◌, map, MatchResult};
 ghost use Rattle.ffs_check.specs.{Moment.moment, Program.Meaning, Refusals.IsNotAsked};
 
@@ -26,7 +26,7 @@ pub enum NotAsked {
     NoMemory,
 }
 
-/// A program that looks at one image, which its words name.
+/// A program that works on one image, which its words name.
 pub trait Program {
     /// What its words ask for of the image.
     type Request: Copy;
@@ -46,8 +46,8 @@ pub trait Program {
             meaning.asks (map (λ word. word.now) words.now) asked.name.now asked.request)
             (IsNotAsked meaning (map (λ word. word.now) words.now)) };
 
-    /// Looks at an image for what is asked for, prints what it finds, and returns the exit status.
-    fn look<I: Image, W: Output>(
+    /// Carries out on an image what is asked for, prints what it finds, and returns the exit status.
+    fn carry_out<I: Image, W: Output>(
         alloc: Global,
         image: &mut I,
         asked: &Asked<'_, Self::Request>,
@@ -55,7 +55,7 @@ pub trait Program {
     ) -> u8
         // It prints and ends as the program promises, and the output holds the reference that it
         // held.
-        ensures looks { meaning.looks asked.now.name.now asked.now.request
+        ensures carries_out { meaning.carries_out asked.now.name.now asked.now.request
             (moment I.Image W.Output image.old out.old) (moment I.Image W.Output image.new out.new)
             result }
         ensures holds { (W.sink out.new).holds ≡ (W.sink out.old).holds };

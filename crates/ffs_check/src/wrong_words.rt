@@ -27,21 +27,6 @@ Status:
   2  the arguments are wrong, or ask for this help or the version
   8  the check didn't run to its end; the last message says why";
 
-const NAME: &[u8] = b"fsck_ffs ";
-
-const NEEDED: &[u8] = b"error: -n and an image are needed";
-
-const SECTOR_RANGE: &[u8] = b"error: a sector is 1 to 4194303";
-
-const NO_SECTOR: &[u8] = b"error: -b needs a sector";
-
-const TWO_SECTORS: &[u8] = b"error: -b can be given once";
-
-const UNKNOWN: &[u8] =
-    b"error: this program takes -n, -b and one image; it never repairs, so it takes no -y, -p and -f";
-
-const OTHER_MISTAKE: &[u8] = b"error: the arguments are wrong";
-
 /// What the text for these words begins with: the help, the program's name before its version, or
 /// what is wrong.
 fn first_text(kind: ErrorKind) -> &'static [u8]
@@ -49,13 +34,15 @@ fn first_text(kind: ErrorKind) -> &'static [u8]
 {
     match kind {
         ErrorKind::DisplayHelp => HELP,
-        ErrorKind::DisplayVersion => NAME,
-        ErrorKind::MissingRequiredArgument => NEEDED,
-        ErrorKind::ValueValidation => SECTOR_RANGE,
-        ErrorKind::InvalidValue => NO_SECTOR,
-        ErrorKind::ArgumentConflict => TWO_SECTORS,
-        ErrorKind::UnknownArgument => UNKNOWN,
-        _ => OTHER_MISTAKE,
+        ErrorKind::DisplayVersion => b"fsck_ffs ",
+        ErrorKind::MissingRequiredArgument => b"error: -n and an image are needed",
+        ErrorKind::ValueValidation => b"error: a sector is 1 to 4194303",
+        ErrorKind::InvalidValue => b"error: -b needs a sector",
+        ErrorKind::ArgumentConflict => b"error: -b can be given once",
+        ErrorKind::UnknownArgument => {
+            b"error: this program takes -n, -b and one image; it never repairs, so it takes no -y, -p and -f"
+        }
+        _ => b"error: the arguments are wrong",
     }
 }
 

@@ -8,8 +8,8 @@ use Rattle.ffs_report.specs.declared.fault.RunFault.TheVariants.{Read, Out}
 use Rattle.ffs_workspace.specs.{declared.workspace.Workspace.Workspace, Holds.HoldsPhase1}
 use Rattle.ffs_finding.specs.declared.find.FindFault.{FindFault, TheVariants.{Refused, Failed, NoMemory}}
 use Rattle.ffs_finding.specs.{declared.request.Target.Target, Claims.{HoldsBlocks, TakesClaims, WithBlocks}, Fields.WithSuper, Outcome.PrintedTo}
-use Rattle.ffs_finding.specs.{Outcome.{any_line}, Whole.{PrintedAll, TargetAnswers}}
-use Rattle.ffs_finding.{specs.Whole.{finds_defects, target_lines}, proofs.Printing.{reads_first}}
+use Rattle.ffs_finding.specs.{Outcome.{any_line}, Headline.{PrintedAll, TargetAnswers}}
+use Rattle.ffs_finding.{specs.Headline.{finds_defects, target_lines}, proofs.Printing.{reads_first}}
 use Rattle.ffs_check.specs.Moment.{Moment}
 
 module _ (target : Target) (sector : Option ℕ) (s : Superblock) (m : Moment) where

@@ -9,9 +9,9 @@ use Rattle.ffs_memory.specs.Account.{Account}
 use Rattle.ffs_layout.specs.Super.{ReadsSuper}
 use Rattle.ffs_finding.specs.declared.request.{Target.Target, Command.{Command, TheVariants.{Copies, InVolume}}}
 use Rattle.ffs_finding.specs.declared.find.FindFault.{FindFault, TheVariants.{Refused, Failed, NoMemory}}
-use Rattle.ffs_finding.specs.{Whole.{Answers, EndsBy, EndsByLine, FindEnds, RefusesSuperblock}}
-use Rattle.ffs_finding.specs.Whole.{FindFailsAt, IsReadFor, IsUnreadableFor}
-use Rattle.ffs_finding.specs.Whole.{PrintedAll, command_finds_defects, command_lines, status_of_answer}
+use Rattle.ffs_finding.specs.{Headline.{Answers, EndsBy, EndsByLine, FindEnds, RefusesSuperblock}}
+use Rattle.ffs_finding.specs.Headline.{FindFailsAt, IsReadFor, IsUnreadableFor}
+use Rattle.ffs_finding.specs.Headline.{PrintedAll, command_finds_defects, command_lines, status_of_answer}
 use Rattle.ffs_image.specs.Device.{ForContents}
 use Rattle.ffs_finding.proofs.Printing.{reads_first}
 use Rattle.ffs_check.specs.{Moment.Moment}

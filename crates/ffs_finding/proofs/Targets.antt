@@ -11,9 +11,9 @@ use Rattle.ffs_image.specs.Known.{ForBytes, IsContents}
 use Rattle.ffs_finding.specs.declared.find.FindFault.{FindFault, TheVariants.{Refused, Failed, NoMemory}}
 use Rattle.ffs_finding.specs.declared.request.Target.{Target, TheVariants.{Inode, Fields, Lost, Owner}}
 use Rattle.ffs_finding.specs.{declared.request.Command.TheVariants.InVolume, Fields.WithSuper, Outcome.PrintedTo}
-use Rattle.ffs_finding.specs.Whole.{Answers, AnswersCommand, FindsTarget, IsGranted, TakesForTarget, TakesMemory}
-use Rattle.ffs_finding.specs.Whole.{FindFailsAt, IsReadFor, IsSectorFor, TargetAnswers}
-use Rattle.ffs_finding.specs.Whole.{command_lines, lines_by, target_lines}
+use Rattle.ffs_finding.specs.Headline.{Answers, AnswersCommand, FindsTarget, IsGranted, TakesForTarget, TakesMemory}
+use Rattle.ffs_finding.specs.Headline.{FindFailsAt, IsReadFor, IsSectorFor, TargetAnswers}
+use Rattle.ffs_finding.specs.Headline.{command_lines, lines_by, target_lines}
 
 -- memory was refused, where the answer says so
 refused : (target : Target) (v : Layout) (held held' : Account) → TakesForTarget target v held held' (Err NoMemory) →

@@ -73,7 +73,7 @@ sought_lines v s steps = lines_again v s.fragment s.number 0 s.cut fresh_replay 
 
 -- an inode was walked over: its lines were printed, and the image was read at most once for each Run that
 -- is seen
-pub record WalksKept {T : Type 0} (v : Layout) (s : Sought) (inode : Inode) (old new : Moment)
+pub record FindsKeptOffers {T : Type 0} (v : Layout) (s : Sought) (inode : Inode) (old new : Moment)
     (result : Result T RunFault) : Type 0 where
   pub found : Finds (IsContents old.image.contents) (λ b. sought_lines v s (steps_of v inode b)) old new result
   pub reads : ForBytes (IsContents old.image.contents)

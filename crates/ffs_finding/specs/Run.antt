@@ -5,7 +5,7 @@ use Rattle.ffs_memory.specs.{System.account_of, Account.unused, declared.system.
 use Rattle.ffs_check.specs.{CommandWords.LacksMemory, Moment.Moment, Program.Meaning, Refusals.IsTextFor}
 use Rattle.ffs_finding.specs.declared.request.Command.{Command}
 use Rattle.ffs_finding.specs.CommandWords.{HaveOperands, Operands, OperandsAskFor, find_program}
-use Rattle.ffs_finding.specs.{Whole.FindsCommand, WrongWords.{find_refusal_text, no_command_text}}
+use Rattle.ffs_finding.specs.{Headline.FindsCommand, WrongWords.{find_refusal_text, no_command_text}}
 
 -- the words ask for a command, of the image of a name
 pub record AskForCommand (words : List (List ℕ)) (name : List ℕ) (command : Command) : Type 0 where
@@ -38,5 +38,5 @@ ffs_find = record {
   asks = AskForCommand;
   refuses = IsFindText;
   lacks_memory = LacksMemory find_program;
-  looks = λ name. IsFoundIn;
+  carries_out = λ name. IsFoundIn;
 }

@@ -4,7 +4,7 @@ ghost use Rattle.ffs_volume.specs.{Messages.Texts.text_of};
 ghost use Rattle.ffs_report.specs.{Lines.message_of, Sink.Prints};
 ghost use Rattle.ffs_layout.specs.Super.{superblock_in};
 ghost use Rattle.ffs_check.specs.Moment.{moment};
-ghost use Rattle.ffs_finding.specs.Whole.{AnswersCommand, EndsBy, FindsCommand, FindsTarget, TakesForTarget};
+ghost use Rattle.ffs_finding.specs.Headline.{AnswersCommand, EndsBy, FindsCommand, FindsTarget, TakesForTarget};
 ghost use Rattle.ffs_finding.specs.declared.find.FindFault.TheVariants.{Failed, NoMemory};
 ghost use Rattle.ffs_finding.specs.declared.request.Target.TheVariants.{Lost, Owner};
 ghost use Rattle.ffs_finding.specs.declared.request.Command.TheVariants.{Copies, InVolume};

@@ -24,8 +24,7 @@
 //!   find.
 //!
 //! It rests on `ffs_check` for a run and for the image that a name opens, on `ffs_claims` for phase
-//! 1, on `ffs_groups` for maps (two proofs take a lemma of `ffs_counts`), on `ffs_walk` for walks
-//! and windows, and on `clap`.
+//! 1, on `ffs_groups` for maps, on `ffs_walk` for walks and windows, and on `clap`.
 #![tactic(auto)]
 
 mod claims;

@@ -13,7 +13,7 @@ ghost use Rattle.ffs_check.specs.Moment.{moment};
 ghost use Rattle.ffs_claims.specs.Rescan.{ReplaysStep};
 ghost use Rattle.ffs_finding.specs.{Claims.WithBlocks, Outcome.Finds, Keepers.{CanFindKeeper, CanPrintMap, CanPrintStep, CanReadMap}};
 ghost use Rattle.ffs_finding.specs.LostMaps.{IsBlockWindow};
-ghost use Rattle.ffs_finding.specs.Keepers.{FindsKeeper, FindsAllKeepers, WalksKept, is_in_run, map_lines, run_text};
+ghost use Rattle.ffs_finding.specs.Keepers.{FindsKeeper, FindsAllKeepers, FindsKeptOffers, is_in_run, map_lines, run_text};
 ghost use Rattle.ffs_finding.specs.Keepers.{sought_in, step_text};
 
 use crate::group_map::{is_marked_free, map_place};
@@ -123,7 +123,7 @@ fn print_by_map<W: Output>(
 }
 
 /// Reads the group block of a fragment that nothing claims, and prints whether it is free or lost.
-fn print_unclaimed<I: Image, W: Output>(
+fn find_unclaimed<I: Image, W: Output>(
     geometry: &Geometry,
     image: &mut I,
     window: &mut Window,
@@ -225,7 +225,7 @@ fn indirect_in(step: Step) -> u64
 /// Walks over the blocks of an inode, and prints a line for each offer of the fragment that it
 /// keeps.
 #[tactic(auto, using(crate::proofs::Walking::blocks_then))]
-fn print_kept<I: Image, W: Output>(
+fn find_kept_offers<I: Image, W: Output>(
     geometry: &Geometry,
     image: &mut I,
     blocks: &mut Blocks,
@@ -234,7 +234,7 @@ fn print_kept<I: Image, W: Output>(
     out: &mut W,
 ) -> Result<(), RunFault>
     requires { CanWalk geometry.now.layout (I.device image.old) blocks.old }
-    ensures walks { WalksKept geometry.now.layout sought inode.now
+    ensures finds { FindsKeptOffers geometry.now.layout sought inode.now
         (moment I.Image W.Output image.old out.old) (moment I.Image W.Output image.new out.new)
         result }
     ensures blocks { KeepsBlocks geometry.now.layout (I.device image.new).contents blocks.old
@@ -258,7 +258,7 @@ fn print_kept<I: Image, W: Output>(
 }
 
 /// Reads an inode, and prints a line for each offer of the fragment that it keeps.
-fn print_keeper<I: Image, W: Output>(
+fn find_keeper<I: Image, W: Output>(
     geometry: &Geometry,
     image: &mut I,
     workspace: &mut Workspace,
@@ -282,7 +282,7 @@ fn print_keeper<I: Image, W: Output>(
         cut,
     };
     let blocks = &mut workspace.windows.blocks;
-    print_kept(geometry, image, blocks, sought, &inode, out)
+    find_kept_offers(geometry, image, blocks, sought, &inode, out)
 }
 
 /// Whether an inode is allocated, as phase 1 found it: no other one has blocks.
@@ -312,7 +312,7 @@ fn find_keepers_unlimited<I: Image, W: Output>(
         if !is_allocated(workspace, number) {
             continue;
         }
-        print_keeper(geometry, image, workspace, fragment, number, out)?;
+        find_keeper(geometry, image, workspace, fragment, number, out)?;
     }
     Ok(())
 }
@@ -383,5 +383,5 @@ pub fn find_owner<I: Image, W: Output>(
         return find_keepers(geometry, image, workspace, fragment, out);
     }
     let window = &mut workspace.windows.current;
-    print_unclaimed(geometry, image, window, fragment, out)
+    find_unclaimed(geometry, image, window, fragment, out)
 }

@@ -39,7 +39,7 @@ impl Program for Find {
         }
     }
 
-    fn look<I: Image, W: Output>(
+    fn carry_out<I: Image, W: Output>(
         alloc: Global,
         image: &mut I,
         asked: &Asked<'_, Command>,

@@ -44,18 +44,6 @@ Status:
   2  the words are wrong, or ask for this help or the version
   8  the search didn't run to its end; the last message says why";
 
-const NAME: &[u8] = b"ffs_find ";
-
-const NEEDED: &[u8] = b"error: a command and an image are needed";
-
-const SECTOR_RANGE: &[u8] = b"error: a sector is 1 to 4194303";
-
-const NO_SECTOR: &[u8] = b"error: -b needs a sector";
-
-const TWO_SECTORS: &[u8] = b"error: -b can be given once";
-
-const NO_COMMAND: &[u8] = b"error: no command has these words";
-
 /// What the text for these words begins with: the help, the program's name before its version, or
 /// what is wrong.
 fn first_text(kind: ErrorKind) -> &'static [u8]
@@ -63,12 +51,12 @@ fn first_text(kind: ErrorKind) -> &'static [u8]
 {
     match kind {
         ErrorKind::DisplayHelp => HELP,
-        ErrorKind::DisplayVersion => NAME,
-        ErrorKind::MissingRequiredArgument => NEEDED,
-        ErrorKind::ValueValidation => SECTOR_RANGE,
-        ErrorKind::InvalidValue => NO_SECTOR,
-        ErrorKind::ArgumentConflict => TWO_SECTORS,
-        _ => NO_COMMAND,
+        ErrorKind::DisplayVersion => b"ffs_find ",
+        ErrorKind::MissingRequiredArgument => b"error: a command and an image are needed",
+        ErrorKind::ValueValidation => b"error: a sector is 1 to 4194303",
+        ErrorKind::InvalidValue => b"error: -b needs a sector",
+        ErrorKind::ArgumentConflict => b"error: -b can be given once",
+        _ => b"error: no command has these words",
     }
 }
 

@@ -8,6 +8,6 @@ returns-in-Ok-clause-ends g c = inl (
     name = c.in-Ok.asked.name.now;
     request = c.in-Ok.asked.request;
     asked = c.in-Ok.ensures;
-    looked = c.look_at_named.ensures.looks;
+    carried_out = c.open_and_carry_out.ensures.carries_out;
   }),
 )

@@ -7,7 +7,7 @@ use Rattle.ffs_maps.specs.Bits.{bits_of}
 use Rattle.ffs_groups.specs.Free.{free_in}
 use Rattle.ffs_report.proofs.Sinks.{took_nil}
 use Rattle.ffs_image.specs.Known.{ForBytes, IsContents}
-use Rattle.ffs_counts.proofs.RecordPlaces.{block_inside}
+use Rattle.ffs_finding.proofs.GroupBlocks.{group_block_inside}
 use Rattle.ffs_finding.proofs.{Printing.{prints_whether, stops}, LostGroups.{from_group, groups_begin, groups_end}}
 use Rattle.ffs_finding.proofs.LostGroups.{groups_next}
 use Rattle.ffs_finding.proofs.lost.find_wrong.Goals as goal
@@ -36,7 +36,7 @@ loop-group-init g c =
     }
 
 pub fill-requires : goal.fill-requires
-fill-requires g c = grind (arith, block_inside)
+fill-requires g c = grind (arith, group_block_inside)
 
 pub returns-in_err-found-clause-prints : goal.returns-in_err-found-clause-prints
 returns-in_err-found-clause-prints g c =

@@ -25,24 +25,24 @@ loop-number-init g c = record {
   };
 }
 
-pub returns-in_err-print_keeper-clause-finds : goal.returns-in_err-print_keeper-clause-finds
-returns-in_err-print_keeper-clause-finds g c =
+pub returns-in_err-find_keeper-clause-finds : goal.returns-in_err-find_keeper-clause-finds
+returns-in_err-find_keeper-clause-finds g c =
     let p = err_from_is_err_and c.from_residual.result c.from_residual.ensures.1 in
     let inv = c.loop-number.invariant in
     let v = c.args.geometry.now.layout in
     let n = c.loop-number.number in
     let f = c.args.fragment in
     let sound = c.args.geometry.now.sound in
-    let did = c.in_err-print_keeper.ensures.finds in
-    let fault : Result (Unit {0}) RunFault = Err c.in_err-print_keeper.field-0.0 in
+    let did = c.in_err-find_keeper.ensures.finds in
+    let fault : Result (Unit {0}) RunFault = Err c.in_err-find_keeper.field-0.0 in
     let high : n < inodes_of v = omega arith in
     rw (p.1, p.2) (record {
       found = record {
-        image = image_from (g.I.Image.device c.print_keeper.new.image)
+        image = image_from (g.I.Image.device c.find_keeper.new.image)
             fault inv.device did.found.image;
         text = part_fault (Unit {0}) (Unit {0}) _ _ (λ b. keeper_lines_of_inode v b f n)
             (λ b. keepers_from v b f (n + 1)) _ _ _
-            _ c.in_err-print_keeper.field-0.0 inv.printed (λ b k. keepers_next v b f n high)
+            _ c.in_err-find_keeper.field-0.0 inv.printed (λ b k. keepers_next v b f n high)
             (found_lines inv.device inv.stays sound inv.low high did);
       };
       reads = λ b k. omega (
@@ -103,11 +103,11 @@ loop-number-preserved g c =
     let n = c.loop-number.number in
     let f = c.args.fragment in
     let sound = c.args.geometry.now.sound in
-    let did = c.in_ok-print_keeper.ensures.finds in
+    let did = c.in_ok-find_keeper.ensures.finds in
     let high : n < inodes_of v = omega arith in
     record {
       device = did.found.image ∙ inv.device;
-      stays = stays_then inv.stays c.print_keeper.ensures.stays;
+      stays = stays_then inv.stays c.find_keeper.ensures.stays;
       low = omega (arith, inv.low);
       high = λ h. omega (arith, high);
       paid = λ b k. omega (arith, inv.paid b k, inv.low, found_reads inv.device inv.stays sound inv.low high did b k);
@@ -115,8 +115,8 @@ loop-number-preserved g c =
           (λ b k. keepers_next v b f n high) (found_lines inv.device inv.stays sound inv.low high did);
     }
 
-pub returns-in_err-print_keeper-clause-stays : goal.returns-in_err-print_keeper-clause-stays
-returns-in_err-print_keeper-clause-stays g c = stays_then c.loop-number.invariant.stays c.print_keeper.ensures.stays
+pub returns-in_err-find_keeper-clause-stays : goal.returns-in_err-find_keeper-clause-stays
+returns-in_err-find_keeper-clause-stays g c = stays_then c.loop-number.invariant.stays c.find_keeper.ensures.stays
 
 pub returns-clause-finds : goal.returns-clause-finds
 returns-clause-finds g c = grind (arith, keepers_end, runs_most)

@@ -67,8 +67,8 @@ returns-then-reserved-clause-prints g c = record {
 pub find_keepers-requires : goal.find_keepers-requires
 find_keepers-requires g c = c.forget_windows.ensures.forgets c.args.geometry.now.layout _ c.requires.ready
 
-pub print_unclaimed-requires : goal.print_unclaimed-requires
-print_unclaimed-requires g c =
+pub find_unclaimed-requires : goal.find_unclaimed-requires
+find_unclaimed-requires g c =
     let can = c.forget_windows.ensures.forgets c.args.geometry.now.layout _ c.requires.ready in
     search (rules, arith)
 
@@ -101,7 +101,7 @@ returns-clause-prints g c =
     let forgot = c.forget_windows.ensures.only in
     let some = claimed_lines v d c.args.workspace.now f c.get.result c.args.geometry.now.sound (omega arith) free
     (c.get.ensures ∙ ap (λ (w : Workspace). is_set (bits_of w.used) f) forgot) in
-    let did = c.print_unclaimed.ensures.prints in
+    let did = c.find_unclaimed.ensures.prints in
     record {
       image = did.image;
       text = same_lines (WithBlocks v d c.args.workspace.now) (λ b. map_lines v b f)
@@ -114,5 +114,5 @@ returns-clause-prints g c =
 pub returns-clause-ready : goal.returns-clause-ready
 returns-clause-ready g c =
     let can = c.forget_windows.ensures.forgets c.args.geometry.now.layout _ c.requires.ready in
-    let did = c.print_unclaimed.ensures in
-    block_read _ _ _ _ _ (size_after {T = Unit {0}} _ _ c.print_unclaimed.result did.prints.image) can.ready did.window
+    let did = c.find_unclaimed.ensures in
+    block_read _ _ _ _ _ (size_after {T = Unit {0}} _ _ c.find_unclaimed.result did.prints.image) can.ready did.window

@@ -1,12 +1,12 @@
 use Rattle.std.proofs.{Common.{◌≡◌, ◌∙◌, ℕ, List, [], ◌∷◌, arith, rules, refl, ap}, lemmas.Result.err_from_is_err_and}
 use Rattle.ffs_volume.specs.{declared.Layout.Layout, Disk.Numbers.piece, Groups.Records.group_block}
 use Rattle.ffs_volume.{proofs.AreaLaws.group_below, specs.Find.Owner.{group_of_fragment, map_text}}
-use Rattle.ffs_counts.proofs.RecordPlaces.{block_inside}
+use Rattle.ffs_finding.proofs.GroupBlocks.{group_block_inside}
 use Rattle.ffs_finding.{specs.Keepers.map_lines, proofs.Printing.{one, one_broken, prints_all, reads_first, stops_all}}
-use Rattle.ffs_finding.proofs.owner.print_unclaimed.Goals as goal
+use Rattle.ffs_finding.proofs.owner.find_unclaimed.Goals as goal
 
 pub fill-requires : goal.fill-requires
-fill-requires g c = grind (arith, block_inside, group_below)
+fill-requires g c = grind (arith, group_block_inside, group_below)
 
 lines_are : (v : Layout) (b block : List ℕ) (f : ℕ) → block ≡ group_block v b (group_of_fragment v f) →
     map_lines v b f ≡ map_text v block f ∷ []

@@ -1,4 +1,5 @@
--- What is known of the image's bytes after phase 1, what phase 1b does, and what a workspace answers then.
+-- The rescan, which is phase 1b where phase 1 has a DUP line: what is known of the image's bytes before it, what it
+-- leaves and reads, and what a workspace answers then.
 use Rattle.std.specs.Prelude.{ℕ, ◌≡◌, ◌⊎◌, ◌≤◌, ◌+◌, false, if◌then◌else◌, List, Result, OnOk}
 use Rattle.ffs_image.specs.Device.{Device}
 use Rattle.ffs_report.specs.declared.fault.RunFault.{RunFault}

@@ -5,7 +5,7 @@ use Rattle.ffs_image.specs.Known.{ForBytes, IsContents}
 use Rattle.ffs_walk.specs.{Counts.{AreHeld, unread}, Keepings.replay_in, Rests.{most_steps_left, steps_left}}
 use Rattle.ffs_walk.specs.Windows.{KeepsBlocks}
 use Rattle.ffs_finding.specs.{Keepers.lines_again, Outcome.PrintedTo}
-use Rattle.ffs_finding.proofs.owner.print_kept.Given as goal
+use Rattle.ffs_finding.proofs.owner.find_kept_offers.Given as goal
 
 abbrev pub invariant-loop-step : goal.invariant-loop-step
 invariant-loop-step g l =

@@ -1,6 +1,6 @@
 use Rattle.std.proofs.{Common.{arith}}
 use Rattle.ffs_finding.proofs.{Printing.reads_first}
-use Rattle.ffs_finding.proofs.owner.print_keeper.Goals as goal
+use Rattle.ffs_finding.proofs.owner.find_keeper.Goals as goal
 
 pub returns-in_err-inode-clause-finds : goal.returns-in_err-inode-clause-finds
 returns-in_err-inode-clause-finds g c = grind (arith, reads_first)

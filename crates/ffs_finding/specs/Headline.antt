@@ -1,4 +1,4 @@
--- What the program prints of an image, and its status, by what it is asked for. What is promised is
+-- The headline: what the program prints of an image, and its status, by what it is asked for. It is
 -- `FindsCommand`, at the end, which says how a command ends by `FindEnds`. `Answers` is the same before the line
 -- of a fault is printed.
 use Rattle.std.specs.Prelude.{◌≡◌, ◌⊎◌, ◌≤◌, ◌+◌, ◌*◌, ◌/◌, ℕ, Bool, true, false, ◌&&◌, List, [], if◌then◌else◌, Option}

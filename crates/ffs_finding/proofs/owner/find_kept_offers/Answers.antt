@@ -10,7 +10,7 @@ use Rattle.ffs_claims.proofs.Rewalks.{runs_next}
 use Rattle.ffs_finding.{specs.Keepers.{lines_again, step_lines_again}, proofs.Printing.{prints, stops}}
 use Rattle.ffs_finding.proofs.{Replayed.{lines_gaps, lines_next, lines_none, lines_stopped}, Walking.blocks_on}
 use Rattle.ffs_finding.proofs.Walking.{most_small, one_indirect, seen_pays}
-use Rattle.ffs_finding.proofs.owner.print_kept.Goals as goal
+use Rattle.ffs_finding.proofs.owner.find_kept_offers.Goals as goal
 
 pub loop-step-init : goal.loop-step-init
 loop-step-init g c =
@@ -36,8 +36,8 @@ loop-step-init g c =
 pub next-requires : goal.next-requires
 next-requires g c = grind arith
 
-pub returns-in_err-step-clause-walks : goal.returns-in_err-step-clause-walks
-returns-in_err-step-clause-walks g c =
+pub returns-in_err-step-clause-finds : goal.returns-in_err-step-clause-finds
+returns-in_err-step-clause-finds g c =
     let p = err_from_is_err_and c.from_residual.result c.from_residual.ensures.1 in
     let inv = c.loop-step.invariant in
     let reads = c.in_err-step.ensures.counted inv.held in
@@ -52,8 +52,8 @@ returns-in_err-step-clause-walks g c =
 pub print_step-requires : goal.print_step-requires
 print_step-requires g c = grind arith
 
-pub returns-in_err-print_step-clause-walks : goal.returns-in_err-print_step-clause-walks
-returns-in_err-print_step-clause-walks g c =
+pub returns-in_err-print_step-clause-finds : goal.returns-in_err-print_step-clause-finds
+returns-in_err-print_step-clause-finds g c =
     let from = c.from_residual-in_err-print_step in
     let p = err_from_is_err_and from.result from.ensures.1 in
     let inv = c.loop-step.invariant in
@@ -170,8 +170,8 @@ loop-step-preserved-then-matches g c =
           text;
     }
 
-pub returns-then-not-is_replay_open-clause-walks : goal.returns-then-not-is_replay_open-clause-walks
-returns-then-not-is_replay_open-clause-walks g c =
+pub returns-then-not-is_replay_open-clause-finds : goal.returns-then-not-is_replay_open-clause-finds
+returns-then-not-is_replay_open-clause-finds g c =
     let inv = c.loop-step.invariant in
     let v = c.args.geometry.now.layout in
     let cut = c.args.sought.cut in
@@ -198,5 +198,5 @@ returns-then-not-is_replay_open-clause-walks g c =
       reads = λ b k. omega (arith, inv.paid b k, reads.most);
     }
 
-pub returns-in_default-clause-walks : goal.returns-in_default-clause-walks
-returns-in_default-clause-walks g c = grind (arith, lines_none)
+pub returns-in_default-clause-finds : goal.returns-in_default-clause-finds
+returns-in_default-clause-finds g c = grind (arith, lines_none)
