@@ -3,28 +3,16 @@ use Rattle.std.proofs.Common.{ℕ, ◌+◌, ◌-◌, ◌*◌, ◌%◌, ◌<◌, 
 use Rattle.std.{specs.{Int.div_ceil, List.slice_range}, proofs.{Math.Nat.mod-lt, lemmas.Nat.mul-le}}
 use Rattle.std.proofs.lemmas.Grind.{div_ceil_times}
 use Rattle.ffs_volume.specs.{declared.Layout.Layout, Laws.Geometry.IsAcceptedLayout, Disk.Numbers.piece}
-use Rattle.ffs_volume.specs.Disk.Areas.{cgstart, group_place, summary_place}
+use Rattle.ffs_volume.specs.Disk.Areas.{summary_place}
 use Rattle.ffs_walk.specs.{Windows.WindowHolds, declared.window.Window.Window}
 use Rattle.ffs_workspace.proofs.TablePlaces.{piece_of}
 use Rattle.ffs_counts.specs.Records.{HoldsRecord, first_read, records_read}
-
-pub group_ends : (start block inodes parts size fsize cgsize fragments : ℕ) → cgsize ≤ fragments * fsize →
-    block + fragments ≤ inodes → inodes ≤ parts → start + parts ≤ size →
-    (start + block) * fsize + cgsize ≤ size * fsize
-group_ends start block inodes parts size fsize cgsize fragments a b d e =
-    omega (arith, a, mul-le (start + block + fragments) fsize size fsize (omega arith) (omega arith))
 
 pub records_end : (csaddr size fsize cssize fragments c n ncg : ℕ) → cssize ≤ fragments * fsize →
     csaddr + fragments ≤ size → 16 * ncg ≤ cssize → c + n ≤ ncg →
     csaddr * fsize + 16 * c + 16 * n ≤ size * fsize
 records_end csaddr size fsize cssize fragments c n ncg a b d e =
     omega (arith, a, d, e, mul-le (csaddr + fragments) fsize size fsize b (omega arith))
-
-pub block_inside : (v : Layout) (c : ℕ) → IsAcceptedLayout v → c < v.ncg → group_place v c + v.cgsize ≤ v.size * v.fsize
-block_inside v c g h =
-    group_ends (cgstart v c) v.cblkno v.iblkno v.dblkno v.size v.fsize v.cgsize (div_ceil v.cgsize v.fsize)
-    (div_ceil_times v.cgsize v.fsize (omega (arith, g.sizes.fsize_low))).0
-    g.parts.block_fits (omega (arith, g.parts.inodes_fit)) (g.groups c h).within_size
 
 pub records_inside : (v : Layout) (c n : ℕ) → IsAcceptedLayout v → c + n ≤ v.ncg →
     summary_place v c + 16 * n ≤ v.size * v.fsize

@@ -47,7 +47,7 @@ fn read_summaries<I: Image>(
 ///
 /// # Errors
 /// A read of the image that failed.
-#[tactic(auto, using(crate::proofs::RecordPlaces::block_inside), unfolding(ffs_image::specs::Reads::ReadsAtMostOnce))]
+#[tactic(auto, using(ffs_volume::proofs::AreaLaws::group_block_inside), unfolding(ffs_image::specs::Reads::ReadsAtMostOnce))]
 pub fn read_group<I: Image>(
     geometry: &Geometry,
     image: &mut I,

@@ -7,9 +7,6 @@
 --   Keepers       how the lines of an inode are found
 --   Owners        the lines of inodes, one after another
 --
--- The maps of groups, which lost fragments and owners ask:
---   GroupBlocks   the block of a group, in which its map is, lies within the volume
---
 -- Lost fragments:
 --   Stretches     the lines of stretches of numbers that pass, one after another
 --   LostGroups    what the maps of groups say wrongly, of one group and of all
@@ -55,7 +52,6 @@ pub mod CopySteps
 pub mod FieldTexts
 pub mod Claiming
 pub mod Stretches
-pub mod GroupBlocks
 pub mod LostGroups
 pub mod LostParts
 pub mod Leaving

@@ -1,8 +1,8 @@
 -- Laws of the areas of an accepted layout.
 use Rattle.std.proofs.Common.{zero, suc, ◌≡◌, ℕ, ◌+◌, ◌-◌, ◌*◌, ◌/◌, ◌<◌, ◌≤◌, Bool, true, false, arith}
 use Rattle.std.proofs.{Common.{mul-le-mul_right, nat_lt, nat_le, ◌&&◌}, lemmas.Bool.Decides.nat_tests}
-use Rattle.std.{proofs.lemmas.{Grind.div_ceil_times, Nat.div_below}, specs.Int.div_ceil}
-use Rattle.ffs_volume.specs.Disk.Areas.{cgbase, cgstart, cgsblock, cgdmin, is_group_metadata}
+use Rattle.std.{proofs.lemmas.{Grind.div_ceil_times, Nat.{div_below, mul-le}}, specs.Int.div_ceil}
+use Rattle.ffs_volume.specs.Disk.Areas.{cgbase, cgstart, cgsblock, cgdmin, group_place, is_group_metadata}
 use Rattle.ffs_volume.{proofs.SearchLaws.some_below-suc, specs.Disk.{Outcome.copy_place, Search.first_below}}
 use Rattle.ffs_volume.specs.{Disk.Search.some_below, Laws.Geometry.IsAcceptedLayout, declared.Layout.Layout}
 
@@ -47,3 +47,17 @@ copy_inside v g =
 -- no fragment from size on is a group's metadata
 pub no_metadata_past_size : (v : Layout) (f : ℕ) → IsAcceptedLayout v → v.size ≤ f → is_group_metadata v f ≡ false
 no_metadata_past_size v f g h = grind (arith, is_metadata_of_group)
+
+group_ends : (start block inodes parts size fsize cgsize fragments : ℕ) → cgsize ≤ fragments * fsize →
+    block + fragments ≤ inodes → inodes ≤ parts → start + parts ≤ size →
+    (start + block) * fsize + cgsize ≤ size * fsize
+group_ends start block inodes parts size fsize cgsize fragments a b d e =
+    omega (arith, a, mul-le (start + block + fragments) fsize size fsize (omega arith) (omega arith))
+
+-- the block of a group lies within the volume
+pub group_block_inside : (v : Layout) (c : ℕ) → IsAcceptedLayout v → c < v.ncg →
+    group_place v c + v.cgsize ≤ v.size * v.fsize
+group_block_inside v c g h =
+    group_ends (cgstart v c) v.cblkno v.iblkno v.dblkno v.size v.fsize v.cgsize (div_ceil v.cgsize v.fsize)
+    (div_ceil_times v.cgsize v.fsize (omega (arith, g.sizes.fsize_low))).0
+    g.parts.block_fits (omega (arith, g.parts.inodes_fit)) (g.groups c h).within_size

@@ -7,7 +7,7 @@ use Rattle.ffs_maps.specs.Bits.{bits_of}
 use Rattle.ffs_groups.specs.Free.{free_in}
 use Rattle.ffs_report.proofs.Sinks.{took_nil}
 use Rattle.ffs_image.specs.Known.{ForBytes, IsContents}
-use Rattle.ffs_finding.proofs.GroupBlocks.{group_block_inside}
+use Rattle.ffs_volume.proofs.AreaLaws.{group_block_inside}
 use Rattle.ffs_finding.proofs.{Printing.{prints_whether, stops}, LostGroups.{from_group, groups_begin, groups_end}}
 use Rattle.ffs_finding.proofs.LostGroups.{groups_next}
 use Rattle.ffs_finding.proofs.lost.find_wrong.Goals as goal

@@ -1,7 +1,7 @@
 use Rattle.std.proofs.{Common.{◌≡◌, ◌∙◌, ℕ, List, [], ◌∷◌, arith, rules, refl, ap}, lemmas.Result.err_from_is_err_and}
 use Rattle.ffs_volume.specs.{declared.Layout.Layout, Disk.Numbers.piece, Groups.Records.group_block}
-use Rattle.ffs_volume.{proofs.AreaLaws.group_below, specs.Find.Owner.{group_of_fragment, map_text}}
-use Rattle.ffs_finding.proofs.GroupBlocks.{group_block_inside}
+use Rattle.ffs_volume.proofs.AreaLaws.{group_below, group_block_inside}
+use Rattle.ffs_volume.specs.Find.Owner.{group_of_fragment, map_text}
 use Rattle.ffs_finding.{specs.Keepers.map_lines, proofs.Printing.{one, one_broken, prints_all, reads_first, stops_all}}
 use Rattle.ffs_finding.proofs.owner.find_unclaimed.Goals as goal
 
