@@ -2,12 +2,13 @@
 ghost use Rattle.std.specs.Prelude.{◌≡◌, ◌<◌, ℕ, vec_len, List, option_map};
 ghost use Rattle.ffs_volume.specs.Directories.PathnameCheck.{dot_defects, dotdot_defects, has_partial_chunk, is_wrong_parent};
 ghost use Rattle.ffs_volume.specs.Directories.PathnameCheck.{chunk_lines, dot_lines, dotdot_lines, dots_lines, header_lines, size_lines};
-ghost use Rattle.ffs_volume.specs.{declared.Layout.Layout, Directories.{Graph.parent, Parents.graph_of, Volumes.volume_of}};
+ghost use Rattle.ffs_volume.specs.{declared.Layout.Layout, Directories.{Parents.graph_of, Volumes.volume_of}};
 ghost use Rattle.ffs_layout.specs.Entry.{entry_value};
 ghost use Rattle.ffs_workspace.specs.Holds.{HoldsSurvey};
 ghost use Rattle.ffs_report.specs.Progress.{progress};
 ghost use Rattle.ffs_pathnames.specs.{Begins.AreFirstTwo, Ready.ReadyToPath, DirectoryLines.ReportsHeader, Moments.lines_moment};
 ghost use Rattle.ffs_pathnames.specs.{SaysTreeMessages.SaysTreeMessages, HeaderValues.{defects_of_facts, defects_value, dot_value}};
+ghost use Rattle.ffs_volume.specs.Directories.Graph as graph;
 
 use crate::entry_texts::put_path;
 use crate::say::{LineIf, Phase2Line, say_line, say_two};
@@ -43,7 +44,7 @@ pub struct HeaderFacts<'a> {
 pub fn found_parent(workspace: &Workspace, dir: u32) -> Option<u32>
     requires { dir < vec_len workspace.now.parents }
     ensures { (v : Layout) (b : List ℕ) → HoldsSurvey v b workspace.now → result
-        ≡ parent (graph_of (volume_of v b)) dir }
+        ≡ graph.parent (graph_of (volume_of v b)) dir }
 {
     let parent = workspace.parents[dir as usize];
     if parent == 0 {
