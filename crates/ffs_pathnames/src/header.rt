@@ -6,8 +6,8 @@ ghost use Rattle.ffs_volume.specs.{declared.Layout.Layout, Directories.{Parents.
 ghost use Rattle.ffs_layout.specs.Entry.{entry_value};
 ghost use Rattle.ffs_workspace.specs.Holds.{HoldsSurvey};
 ghost use Rattle.ffs_report.specs.Progress.{progress};
-ghost use Rattle.ffs_pathnames.specs.{Begins.AreFirstTwo, Ready.ReadyToPath, DirectoryLines.ReportsHeader, Moments.lines_moment};
-ghost use Rattle.ffs_pathnames.specs.{SaysTreeMessages.SaysTreeMessages, HeaderValues.{defects_of_facts, defects_value, dot_value}};
+ghost use Rattle.ffs_pathnames.specs.HeaderValues.{AreFirstTwo, defects_of_facts, defects_value, dot_value};
+ghost use Rattle.ffs_pathnames.specs.{SaysTreeMessages.SaysTreeMessages, Ready.ReadyToPath, DirectoryLines.ReportsHeader, Moments.lines_moment};
 ghost use Rattle.ffs_volume.specs.Directories.Graph as graph;
 
 use crate::entry_texts::put_path;
@@ -304,7 +304,11 @@ fn say_header<W: Output>(
     say_dots(defects, attr, path, report)
 }
 
-/// Says the lines of a directory that come before those of its entries.
+/// Finds what is wrong with a directory before its entries and says it, with the directory's path,
+/// which is made only where something is wrong.
+///
+/// # Errors
+/// A read of the image that failed, and a write of the report that failed.
 pub fn report_header<I: Image, W: Output>(
     geometry: &Geometry,
     image: &mut I,
