@@ -4,7 +4,7 @@ use Rattle.std.proofs.{Common.{Err, append-nil, ltb-true}, lemmas.{List.map-appe
 use Rattle.ffs_pathnames.proofs.{LineCounts.lines_long, LookLaws.quiet_silent, PassedLaws.{size_of, IsDirectory}}
 use Rattle.ffs_pathnames.proofs.{PassedLaws.right_reported, BetweenLaws.{unstamped, looked, looked_right, quiet_next}}
 use Rattle.ffs_pathnames.{proofs.BetweenLaws.reported_next, specs.declared.look.Examination.Examination}
-use Rattle.ffs_pathnames.specs.{Examines.{IsExamined, LeavesAllButDue, StampsOwn}, Begins.AreFirstTwo}
+use Rattle.ffs_pathnames.specs.{Examines.{IsExamined, LeavesAllButDue, StampsOwn}, HeaderValues.AreFirstTwo}
 use Rattle.ffs_pathnames.specs.{Begins.IsDirectoryBegun, PassedRight.RemembersBefore, PassedNames.PassedNames}
 use Rattle.ffs_pathnames.specs.PassedNames.{are_quiet, entries_reported, after_entries}
 use Rattle.ffs_volume.specs.{declared.Layout.Layout, Blocks.Inodes.inode_of, Directories.{Entries.Entry, Graph.parent}}

@@ -6,7 +6,7 @@ use Rattle.ffs_volume.specs.{Directories.{Roles.{Volume, nth_entry}, Parents.gra
 use Rattle.ffs_volume.specs.Directories.{Entries.{Entry, entry_at, entries_of, entries_from}, Graph.{Graph, edge}}
 use Rattle.ffs_volume.{specs.Directories.Graph.{level, parent, parent_by}, proofs.SearchLaws.first_below-some}
 use Rattle.ffs_volume.proofs.Reading.{entries_next, entries_end}
-use Rattle.ffs_pathnames.specs.Begins.{number_if, started_entry}
+use Rattle.ffs_pathnames.specs.HeaderValues.{number_if, started_entry}
 
 -- the second is after the first
 second_is : (order : Order) (chunk : List ℕ) (e : Entry) → entry_at order chunk 0 ≡ Some e →

@@ -7,7 +7,7 @@ use Rattle.ffs_pathnames.specs.Before.{needs_check}
 
 -- only directories that are looked at need a check
 abbrev pub ChecksLookedAt : Layout → List ℕ → Workspace → Type 0
-ChecksLookedAt v b w = (d : ℕ) → is_looked_at v b d ≡ false → needs_check w d ≡ false
+ChecksLookedAt v b w = (dir : ℕ) → is_looked_at v b dir ≡ false → needs_check w dir ≡ false
 
 -- no flag is taken away
 abbrev pub KeepsFlags : (old new : Workspace) → Type 0

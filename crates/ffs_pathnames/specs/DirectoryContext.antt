@@ -3,10 +3,10 @@ use Rattle.std.specs.Prelude.{◌≡◌, ℕ, true, IsTrue, List, Option, Some}
 use Rattle.ffs_image.specs.Device.{Device}
 use Rattle.ffs_image.specs.Known.{ForBytes, IsContents}
 use Rattle.ffs_volume.specs.{declared.Layout.Layout, Blocks.Inodes.inode_of, Directories.Graph.Graph}
-use Rattle.ffs_volume.specs.{Directories.{Parents.graph_of, PathnameCheck.attributes_of, Roles.is_dir, Volumes.volume_of}, Encodings.Places.AreNoted}
+use Rattle.ffs_volume.specs.{Directories.{Parents.graph_of, Roles.is_dir, Volumes.volume_of}, Encodings.Places.AreNoted}
 use Rattle.ffs_workspace.specs.{declared.workspace.Workspace.Workspace, Holds.{HoldsClaims, HoldsSurvey}}
 use Rattle.ffs_paths.specs.DirectoryPaths.{IsPathOf}
-use Rattle.ffs_pathnames.specs.declared.{look.Directory.Directory, header.HeaderFacts.HeaderFacts}
+use Rattle.ffs_pathnames.specs.declared.look.Directory.{Directory}
 use Rattle.ffs_pathnames.specs.declared.entry_texts.EntryTexts.{EntryTexts}
 
 -- the image gives these bytes, the workspace holds what the block check and the survey leave, and the
@@ -38,8 +38,3 @@ KeepsPath v d w dir old new =
 abbrev pub KnowsDirectory : Layout → Device → Workspace → Directory → List ℕ → Type 0
 KnowsDirectory v d w directory b =
     DirectoryContext v d.contents w directory.number b × (directory.inode ≡ inode_of v b directory.number)
-
--- the bytes are those of the context of a header's directory, and the header shows its inode
-abbrev pub KnowsHeader : Layout → Device → Workspace → HeaderFacts → List ℕ → Type 0
-KnowsHeader v d w h b =
-    DirectoryContext v d.contents w h.attr.number b × (h.attr ≡ attributes_of h.attr.number (inode_of v b h.attr.number))

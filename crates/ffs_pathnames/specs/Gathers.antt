@@ -85,7 +85,8 @@ pub record HasInodeLists (w : Workspace) : Type 0 where
   pub queue : vec_len w.queue ≡ vec_len w.kinds
   pub few : vec_len w.kinds < 2 ^ 31
 
--- what calls gather that messages show; they only read the image
+-- what calls gather that messages show; they only read the image. A clause gives the image before the call and
+-- after it (`old new`), then the workspaces (`w w'`): a path that is settled leaves the very image (`BeginsPath`)
 module _ {S : Type 0} (I : Ghosts S) (v : Layout) (old new : S) (w w' : Workspace) where
   -- what calls leave that make at most n reads, paths among them
   abbrev pub ReadsForPaths : {T : Type 0} → ℕ → KeptParent → Result T ImageFault → Type 0

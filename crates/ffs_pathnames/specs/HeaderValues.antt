@@ -1,13 +1,38 @@
--- What is wrong with a directory before its entries, by the values of the program.
-use Rattle.std.specs.{Prelude.{List, ℕ, option_map}, Borrow.Bor}
+-- What is found of a directory before its entries, and what is wrong with it, by the values of the program.
+use Rattle.std.specs.{Prelude.{◌≡◌, ◌==◌, if◌then◌else◌, Bool, List, [], ℕ, option_map, option_and_then}, Borrow.Bor}
+use Rattle.std.specs.Prelude.{Option, None, Some}
+use Rattle.ffs_image.specs.Device.{Device}
+use Rattle.ffs_volume.specs.{declared.{Layout.Layout, Order.Order}, Blocks.Inodes.inode_of}
 use Rattle.ffs_volume.specs.declared.verdict.{HeaderDefects.HeaderDefects, DotDefects.{DotDefects, TheVariants.Missing}}
 use Rattle.ffs_volume.specs.declared.verdict.DotDefects.TheVariants.{Other, Found}
-use Rattle.ffs_volume.specs.Directories.{PathnameCheck.{attributes, header_defects, header_lines}, Parents.graph_of}
-use Rattle.ffs_volume.specs.{Directories.{Paths.dir_path, Roles.Volume}, Messages.Kinds.TreeMessage}
+use Rattle.ffs_volume.specs.Directories.{PathnameCheck.{attributes, attributes_of, header_defects, header_lines}}
+use Rattle.ffs_volume.specs.Directories.{Entries.Entry, Parents.graph_of, Paths.dir_path, Roles.{Volume, nth_entry}}
+use Rattle.ffs_volume.specs.Messages.Kinds.{TreeMessage}
 use Rattle.ffs_layout.specs.Entry.{entry_value}
+use Rattle.ffs_workspace.specs.declared.workspace.Workspace.{Workspace}
+use Rattle.ffs_pathnames.specs.{DirectoryContext.DirectoryContext, StartChunks.start_chunk}
 use Rattle.ffs_pathnames.specs.declared.header.HeaderFacts.{HeaderFacts}
 
--- with names as their bytes
+-- 0 means no number
+abbrev pub number_if : ℕ → Option ℕ
+number_if n = if n == 0 then None else Some n
+
+-- an entry of the chunk at the start of the file, if that was found
+abbrev pub started_entry : ℕ → Bool → Order → List ℕ → Option Entry
+started_entry i started order start = option_and_then (λ c. nth_entry c.entries i) (start_chunk [] started order start)
+
+-- these are the first two entries of that chunk
+pub record AreFirstTwo (one two : Option Entry) (started : Bool) (order : Order) (start : List ℕ) : Type 0 where
+  pub first : one ≡ started_entry 0 started order start
+  pub second : two ≡ started_entry 1 started order start
+
+-- the bytes are those of the context of a header's directory, and the header shows its inode
+abbrev pub KnowsHeader : Layout → Device → Workspace → HeaderFacts → List ℕ → Type 0
+KnowsHeader v d w h b =
+    DirectoryContext v d.contents w h.attr.number b
+    × (h.attr ≡ attributes_of h.attr.number (inode_of v b h.attr.number))
+
+-- what is wrong, with names as their bytes
 abbrev pub dot_value : DotDefects (Bor (List ℕ)) → DotDefects (List ℕ)
 dot_value Missing = Missing
 dot_value (Other name) = Other name.now

@@ -11,8 +11,8 @@
 -- first looks and second readings.
 --
 -- The first look at a directory: `StartChunks` is about its first chunk, `Looks` about the entries of a chunk,
--- `Examines` about all of it, `HeaderValues` about what is wrong before its entries, `Begins` about what is
--- known then.
+-- `Examines` about all of it, `HeaderValues` about what is found, and is wrong, before its entries, `Begins`
+-- about what is known then.
 --
 -- Its second reading: `NextChunks` is about one chunk after another, `SaysTreeMessages` about saying a line,
 -- `EntryLines` about the lines of entries.

@@ -20,7 +20,7 @@ pub record Sees (vol : Volume) (i : Inodes) : Type 0 where
   pub kind : (x : ℕ) → is_allocated (vol.class x) ≡ true → is_unknown (vol.class x) ≡ false
       → type_of_kind (slice_index i.kinds.now x) ≡ (vol.inode x).mode / 4096
   pub class : (x : ℕ) → is_allocated (vol.class x) ≡ true → vol.class x ≡ class_of_kind (slice_index i.kinds.now x)
-  pub parent_is : (x s : ℕ) → 2 ≤ s → is_value (parent (graph_of vol) x) s ≡ (slice_index i.parents.now.items x == s)
+  pub parent_is : (x p : ℕ) → 2 ≤ p → is_value (parent (graph_of vol) x) p ≡ (slice_index i.parents.now.items x == p)
 
 -- the stamps by these words, and the names that were passed by these flags and words
 abbrev pub stamps_in : Inodes → (words : List ℕ) → List ℕ
@@ -44,10 +44,10 @@ pub record HasWordOf (i : Inodes) (x : ℕ) (words : List ℕ) : Type 0 where
   pub inode : x < length i.kinds.now
   pub each : length words ≡ length i.kinds.now
 
--- each inode has a word, and the directory that stamps is the root or one after it
-pub record CanStamp (i : Inodes) (s : ℕ) (words : List ℕ) : Type 0 where
+-- each inode has a word, and the directory x that stamps is the root or one after it
+pub record CanStamp (i : Inodes) (x : ℕ) (words : List ℕ) : Type 0 where
   pub each : length words ≡ length i.kinds.now
-  pub dir : 2 ≤ s
+  pub dir : 2 ≤ x
 
 -- and each inode has a flag
 pub record CanLook (i : Inodes) (dir : ℕ) (flags : List Bool) (words : List ℕ) : Type 0 where

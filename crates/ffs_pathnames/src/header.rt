@@ -1,18 +1,26 @@
-//! What is wrong with a directory before its entries, and how it is said.
-ghost use Rattle.std.specs.Prelude.{◌≡◌, option_map};
+//! What is found of a directory before its entries, what is wrong with it, and how it is said.
+ghost use Rattle.std.specs.Prelude.{◌≡◌, ◌<◌, ℕ, vec_len, List, option_map};
 ghost use Rattle.ffs_volume.specs.Directories.PathnameCheck.{dot_defects, dotdot_defects, has_partial_chunk, is_wrong_parent};
 ghost use Rattle.ffs_volume.specs.Directories.PathnameCheck.{chunk_lines, dot_lines, dotdot_lines, dots_lines, header_lines, size_lines};
+ghost use Rattle.ffs_volume.specs.{declared.Layout.Layout, Directories.{Parents.graph_of, Volumes.volume_of}};
 ghost use Rattle.ffs_layout.specs.Entry.{entry_value};
+ghost use Rattle.ffs_workspace.specs.Holds.{HoldsSurvey};
 ghost use Rattle.ffs_report.specs.Progress.{progress};
-ghost use Rattle.ffs_pathnames.specs.{SaysTreeMessages.SaysTreeMessages, HeaderValues.{defects_of_facts, defects_value, dot_value}};
+ghost use Rattle.ffs_pathnames.specs.HeaderValues.{AreFirstTwo, defects_of_facts, defects_value, dot_value};
+ghost use Rattle.ffs_pathnames.specs.{SaysTreeMessages.SaysTreeMessages, Ready.ReadyToPath, DirectoryLines.ReportsHeader, Moments.lines_moment};
+ghost use Rattle.ffs_volume.specs.Directories.Graph as graph;
 
+use crate::entry_texts::put_path;
 use crate::say::{LineIf, Phase2Line, say_line, say_two};
-use ffs_layout::Entry;
+use ffs_image::Image;
+use ffs_layout::{Entry, Geometry, entry_at};
 use ffs_names::{is_one_dot, is_two_dots};
-use ffs_report::{DirectoryLine, DotLine, OutFault, Output, Report};
-use ffs_volume::Attr;
+use ffs_paths::{KeptParent, PathText};
+use ffs_report::{DirectoryLine, DotLine, OutFault, Output, Report, RunFault};
 use ffs_volume::constants::{DIRBLKSIZ, DT_DIR, MINDIRSIZE};
 use ffs_volume::verdict::{DotDefects, HeaderDefects};
+use ffs_volume::{Attr, Order};
+use ffs_workspace::Workspace;
 
 /// What the lines of a directory before those of its entries depend on.
 #[derive(Clone, Copy, Debug)]
@@ -29,6 +37,41 @@ pub struct HeaderFacts<'a> {
     pub first: Option<Entry<'a>>,
     /// The second entry of that chunk.
     pub second: Option<Entry<'a>>,
+}
+
+/// The parent of a directory, as the survey found it.
+#[tactic(auto, using(std::proofs::lemmas::List::get_or_read_under, crate::proofs::FirstTwo::none_back))]
+pub fn found_parent(workspace: &Workspace, dir: u32) -> Option<u32>
+    requires { dir < vec_len workspace.now.parents }
+    ensures { (v : Layout) (b : List ℕ) → HoldsSurvey v b workspace.now → result
+        ≡ graph.parent (graph_of (volume_of v b)) dir }
+{
+    let parent = workspace.parents[dir as usize];
+    if parent == 0 {
+        return None;
+    }
+    Some(parent)
+}
+
+/// The first two entries of the chunk at the start of a directory, if that was found.
+pub fn first_two<'a>(
+    order: Order,
+    started: bool,
+    start: &'a [u8; DIRBLKSIZ],
+) -> (Option<Entry<'a>>, Option<Entry<'a>>)
+    ensures { AreFirstTwo (option_map entry_value result.0) (option_map entry_value result.1)
+        started order start.now }
+{
+    if !started {
+        return (None, None);
+    }
+    match entry_at(order, start, 0) {
+        None => (None, None),
+        Some(entry) => {
+            let second = entry_at(order, start, usize::from(entry.length));
+            (Some(entry), second)
+        }
+    }
 }
 
 /// Whether a size is no multiple of a chunk, though not too short.
@@ -98,7 +141,7 @@ fn dotdot_defects<'a>(parent: Option<u32>, second: Option<Entry<'a>>) -> DotDefe
 
 /// What is wrong with a directory before its entries.
 #[tactic(auto, unfolding(ffs_volume::specs::Directories::PathnameCheck::header_defects))]
-pub fn header_defects<'a>(header: &HeaderFacts<'a>) -> HeaderDefects<&'a [u8]>
+fn header_defects<'a>(header: &HeaderFacts<'a>) -> HeaderDefects<&'a [u8]>
     ensures { defects_value result ≡ defects_of_facts header.now }
 {
     HeaderDefects {
@@ -247,7 +290,7 @@ fn say_dots<W: Output>(
 /// # Errors
 /// A write of the report that failed.
 #[tactic(auto, using(crate::proofs::Saying::first_stops), unfolding(ffs_volume::specs::Directories::PathnameCheck::header_lines))]
-pub fn say_header<W: Output>(
+fn say_header<W: Output>(
     defects: &HeaderDefects<&[u8]>,
     attr: Attr,
     path: &[u8],
@@ -259,4 +302,34 @@ pub fn say_header<W: Output>(
     say_size(defects, attr, path, report)?;
     say_chunks(defects, attr, path, report)?;
     say_dots(defects, attr, path, report)
+}
+
+/// Finds what is wrong with a directory before its entries and says it, with the directory's path,
+/// which is made only where something is wrong.
+///
+/// # Errors
+/// A read of the image that failed, and a write of the report that failed.
+pub fn report_header<I: Image, W: Output>(
+    geometry: &Geometry,
+    image: &mut I,
+    workspace: &mut Workspace,
+    kept_parent: &mut KeptParent,
+    header: HeaderFacts<'_>,
+    report: &mut Report<'_, W>,
+) -> Result<(), RunFault>
+    requires { ReadyToPath geometry.now.layout (I.device image.old) workspace.old kept_parent.old
+        header.attr.number }
+    ensures { ReportsHeader geometry.now.layout header.entry
+        (lines_moment I.Image W.Output image.old workspace.old report.old kept_parent.old)
+        (lines_moment I.Image W.Output image.new workspace.new report.new kept_parent.new) result }
+{
+    let defects = header_defects(&header);
+    if defects.is_silent() {
+        return Ok(());
+    }
+    let mut path = PathText::new();
+    let number = header.attr.number;
+    put_path(geometry, image, workspace, kept_parent, number, &mut path)?;
+    say_header(&defects, header.attr, path.as_slice(), report)?;
+    Ok(())
 }

@@ -14,9 +14,9 @@ ghost use Rattle.ffs_pathnames.specs.{DirectoryLines.ReportsTree, Moments.lines_
 ghost use Rattle.ffs_survey.specs.Survey.{suspect_at};
 ghost use Rattle.ffs_volume.specs.Messages.Kinds as messages;
 
+use crate::directories::check_directories;
 use crate::inodes::Inodes;
 use crate::say::{LineIf, Phase2Line, say_if, say_line};
-use crate::tree::check_directories;
 use ffs_image::Image;
 use ffs_layout::Geometry;
 use ffs_memory::FilledList;

@@ -8,6 +8,6 @@ abbrev pub HoldsPath : DirectoryPath → Option (List (List ℕ)) → Type 0
 HoldsPath p None = p.reached ≡ false
 HoldsPath p (Some names) = (p.reached ≡ true) × HoldsNames p.names names × HaveNoSlash names
 
--- the path of the directory d
+-- the path of the directory `dir`
 abbrev pub IsPathOf : Graph → ℕ → DirectoryPath → Type 0
-IsPathOf g d p = HoldsPath p (path_names g d)
+IsPathOf g dir p = HoldsPath p (path_names g dir)

@@ -45,10 +45,10 @@ pub record ReadyToPath (v : Layout) (d : Device) (w : Workspace) (s : KeptParent
   pub kept_parent : HoldsKeptParent v d.contents w s
   pub number : x < v.ncg * v.ipg
 
--- a path of the inode x can be made by that of its parent p, which the survey found
-pub record CanKeepChild (v : Layout) (d : Device) (w : Workspace) (s : KeptParent) (p x : ℕ) : Type 0 where
-  pub ready : ReadyToPath v d w s x
-  pub parent : IsParentOf w x p
+-- a path of the directory `dir` can be made by that of its parent p, which the survey found
+pub record CanKeepChild (v : Layout) (d : Device) (w : Workspace) (s : KeptParent) (p dir : ℕ) : Type 0 where
+  pub ready : ReadyToPath v d w s dir
+  pub parent : IsParentOf w dir p
 
 -- what a call leaves that makes so many reads at most for a path, where each place is noted; where
 -- it failed, nothing is said here of what is kept of a parent (the clause `still` does)
@@ -58,15 +58,15 @@ pub record PathLeaves {T : Type 0} (v : Layout) (most : ℕ) (old new : WorkMome
   pub counted : ReadsAtMost v most old new
   pub kept_parent : OnOk result (HoldsKeptParent v new.image.contents new.workspace s)
 
--- a call keeps the path of the directory x, as that of the next one's parent
-pub record StoresPathOf {T : Type 0} (v : Layout) (x : ℕ) (old new : WorkMoment) (s : KeptParent)
+-- a call keeps the path of the directory `dir`, as that of the next one's parent
+pub record StoresPathOf {T : Type 0} (v : Layout) (dir : ℕ) (old new : WorkMoment) (s : KeptParent)
     (result : Result T ImageFault) : Type 0 where
-  -- x is the parent that is kept
-  pub parent : OnOk result (s.parent ≡ x)
+  -- `dir` is the parent that is kept
+  pub parent : OnOk result (s.parent ≡ dir)
   -- and what is kept of it is right
   pub kept_parent : OnOk result (HoldsKeptParent v new.image.contents new.workspace s)
   -- it only reads: a read at most for each name of that path, and no more than the way up takes
-  pub reads : ReadsNames v x old new result
+  pub reads : ReadsNames v dir old new result
 
 -- a moment of calls for one path after another: what is kept of a parent, too
 pub record KeptMoment : Type 0 where
@@ -76,39 +76,40 @@ pub record KeptMoment : Type 0 where
 abbrev pub kept_moment : {I : Type 0} → Ghosts I → I → Workspace → KeptParent → KeptMoment
 kept_moment I image w s = record { at = work_moment I image w; kept = s }
 
--- the path of the directory d is kept: d is the parent, or the child
-abbrev pub HasPathOf : KeptParent → (d : ℕ) → Type 0
-HasPathOf s d = (s.parent ≡ d) ⊎ (s.child ≡ d)
+-- the path of the directory `dir` is kept: it is the parent, or the child
+abbrev pub HasPathOf : KeptParent → (dir : ℕ) → Type 0
+HasPathOf s dir = (s.parent ≡ dir) ⊎ (s.child ≡ dir)
 
--- a path of the directory x makes, where each place is noted, a read at most for each of its names; one
+-- a path of the directory `dir` makes, where each place is noted, a read at most for each of its names; one
 -- where that of its parent is kept; and none where the window holds the part with its name, too
-pub record SparesReads (v : Layout) (x : ℕ) (old new : KeptMoment) : Type 0 where
+pub record SparesReads (v : Layout) (dir : ℕ) (old new : KeptMoment) : Type 0 where
   pub names : (b : List ℕ) → KnowsPlaces v old.at.image.contents old.at.workspace b
-      → new.at.reads ≤ old.at.reads + names_to (graph_of (volume_of v b)) x
+      → new.at.reads ≤ old.at.reads + names_to (graph_of (volume_of v b)) dir
   pub kept : (b : List ℕ) (p : ℕ) → KnowsPlaces v old.at.image.contents old.at.workspace b
-      → IsParentOf old.at.workspace x p → HasPathOf old.kept p → new.at.reads ≤ old.at.reads + 1
+      → IsParentOf old.at.workspace dir p → HasPathOf old.kept p → new.at.reads ≤ old.at.reads + 1
   pub again : (b : List ℕ) (p : ℕ) → KnowsPlaces v old.at.image.contents old.at.workspace b
-      → IsParentOf old.at.workspace x p → HasPathOf old.kept p → HoldsPlaceOf v old.at.workspace x
+      → IsParentOf old.at.workspace dir p → HasPathOf old.kept p → HoldsPlaceOf v old.at.workspace dir
       → new.at.reads ≤ old.at.reads
 
--- the path of the parent of x is kept then, and x with it; where x has no parent, what was kept before
-pub record StoresChild (w : Workspace) (x : ℕ) (s s' : KeptParent) : Type 0 where
-  pub parent : (p : ℕ) → IsParentOf w x p → (s'.parent ≡ p) × (s'.child ≡ x)
-  pub same : ((p : ℕ) → IsParentOf w x p → ⊥) → s' ≡ s
+-- the path of the parent of the directory `dir` is kept then, and `dir` with it; where `dir` has no parent, what was
+-- kept before
+pub record StoresChild (w : Workspace) (dir : ℕ) (s s' : KeptParent) : Type 0 where
+  pub parent : (p : ℕ) → IsParentOf w dir p → (s'.parent ≡ p) × (s'.child ≡ dir)
+  pub same : ((p : ℕ) → IsParentOf w dir p → ⊥) → s' ≡ s
 
--- and the window holds the part of the place of x, where it has a parent and each place is noted
-abbrev pub HoldsPlaceThen : Layout → (x : ℕ) → (old new : WorkMoment) → Type 0
-HoldsPlaceThen v x old new = (b : List ℕ) (p : ℕ) → KnowsPlaces v old.image.contents old.workspace b
-    → IsParentOf old.workspace x p → HoldsPlaceOf v new.workspace x
+-- and the window holds the part of the place of `dir`, where it has a parent and each place is noted
+abbrev pub HoldsPlaceThen : Layout → (dir : ℕ) → (old new : WorkMoment) → Type 0
+HoldsPlaceThen v dir old new = (b : List ℕ) (p : ℕ) → KnowsPlaces v old.image.contents old.workspace b
+    → IsParentOf old.workspace dir p → HoldsPlaceOf v new.workspace dir
 
--- what a call for the path of the directory x costs, and what it leaves for the next one
-pub record PathCosts {T : Type 0} (v : Layout) (x : ℕ) (old new : KeptMoment) (result : Result T ImageFault) :
+-- what a call for the path of the directory `dir` costs, and what it leaves for the next one
+pub record PathCosts {T : Type 0} (v : Layout) (dir : ℕ) (old new : KeptMoment) (result : Result T ImageFault) :
     Type 0 where
   -- it only reads, `path_reads` times at most where each place is noted, and what is kept of a parent is right
   pub leaves : PathLeaves v path_reads old.at new.at new.kept result
   -- at most a read for each name, one where the parent's path is kept, none where the window has the name, too
-  pub spares : SparesReads v x old new
-  -- the path of that parent is kept then, and x with it
-  pub keeps : OnOk result (StoresChild old.at.workspace x old.kept new.kept)
-  -- and the window holds the part of the place of x
-  pub held : OnOk result (HoldsPlaceThen v x old.at new.at)
+  pub spares : SparesReads v dir old new
+  -- the path of that parent is kept then, and `dir` with it
+  pub keeps : OnOk result (StoresChild old.at.workspace dir old.kept new.kept)
+  -- and the window holds the part of the place of `dir`
+  pub held : OnOk result (HoldsPlaceThen v dir old.at new.at)

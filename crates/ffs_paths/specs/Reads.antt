@@ -1,7 +1,8 @@
 -- What a call that only reads the image leaves of a workspace, and how often it reads.
-use Rattle.std.specs.Prelude.{◌≡◌, suc, ◌+◌, ◌-◌, ◌*◌, ◌/◌, ◌<◌, ◌≤◌, ℕ, List, Option, Result, Some, true, OnOk, slice_index}
-use Rattle.std.specs.Option.{unwrap_or}
-use Rattle.ffs_image.specs.{Device.{Device, ForContents}, Known.IsContents, Reads.{ReadAfter, ReadsAtMostOnce}, declared.image.ImageFault.ImageFault}
+use Rattle.std.specs.Prelude.{◌≡◌, suc, ◌+◌, ◌-◌, ◌*◌, ◌/◌, ◌<◌, ◌≤◌, ℕ, List, Option, Result, Some, true, OnOk}
+use Rattle.std.specs.{Prelude.slice_index, Option.unwrap_or}
+use Rattle.ffs_image.specs.{Device.{Device, ForContents}, Known.IsContents, Reads.{ReadAfter, ReadsAtMostOnce}}
+use Rattle.ffs_image.specs.declared.image.ImageFault.{ImageFault}
 use Rattle.ffs_volume.specs.declared.{constants.TheConstants.MAXPATHLEN, Layout.Layout}
 use Rattle.ffs_volume.specs.Directories.{Graph.{Graph, level}, Parents.graph_of, Volumes.volume_of}
 use Rattle.ffs_workspace.specs.declared.workspace.Workspace.{Workspace}
@@ -15,11 +16,11 @@ pub record CanReadFor (v : Layout) (d : Device) (w : Workspace) (x : ℕ) : Type
   pub ready : CanRead v d w
   pub number : x < v.ncg * v.ipg
 
--- the same, and the directory x is reached
-pub record CanClimb (v : Layout) (d : Device) (w : Workspace) (x : ℕ) : Type 0 where
+-- the same, and the directory `dir` is reached
+pub record CanClimb (v : Layout) (d : Device) (w : Workspace) (dir : ℕ) : Type 0 where
   pub ready : CanRead v d w
-  pub number : x < v.ncg * v.ipg
-  pub reached : bool_at w.reached.items x ≡ true
+  pub number : dir < v.ncg * v.ipg
+  pub reached : bool_at w.reached.items dir ≡ true
 
 -- all of the workspace but its windows is as it was, and so is the window of the current directory;
 -- the windows hold what the image gives
@@ -47,40 +48,40 @@ pub record OnlyReadsFew {T : Type 0} (v : Layout) (most : ℕ) (old new : WorkMo
   pub reads : OnlyReads v old.image new.image old.workspace new.workspace result
   pub counted : ReadsFew most old.reads new.reads old.workspace new.workspace
 
--- the window of other directories holds the part that is noted as the place of x, if one is noted
-abbrev pub HoldsPlaceOf : Layout → Workspace → (x : ℕ) → Type 0
-HoldsPlaceOf v w x = (k : ℕ) → part_in (slice_index w.queue.items x) ≡ suc k
+-- the window of other directories holds the part that is noted as the place of the directory `dir`, if one is noted
+abbrev pub HoldsPlaceOf : Layout → Workspace → (dir : ℕ) → Type 0
+HoldsPlaceOf v w dir = (k : ℕ) → part_in (slice_index w.queue.items dir) ≡ suc k
     → (w.windows.other.place ≡ part_size v * k) × (w.windows.other.length ≡ part_size v)
 
--- the part with the place of x is read once at most, and not where the window holds it; then it holds it
-pub record ReadsPartOf {T : Type 0} (v : Layout) (x : ℕ) (old new : WorkMoment) (result : Result T ImageFault) :
+-- the part with the place of `dir` is read once at most, and not where the window holds it; then it holds it
+pub record ReadsPartOf {T : Type 0} (v : Layout) (dir : ℕ) (old new : WorkMoment) (result : Result T ImageFault) :
     Type 0 where
   pub few : ReadsFew 1 old.reads new.reads old.workspace new.workspace
-  pub again : HoldsPlaceOf v old.workspace x → new.reads ≤ old.reads
-  pub held : OnOk result (HoldsPlaceOf v new.workspace x)
+  pub again : HoldsPlaceOf v old.workspace dir → new.reads ≤ old.reads
+  pub held : OnOk result (HoldsPlaceOf v new.workspace dir)
 
--- a call for the place of x makes one read at most, and none where the window holds its part; where the
+-- a call for the place of `dir` makes one read at most, and none where the window holds its part; where the
 -- place is one, the window holds it then
-pub record ReadsPlace {T : Type 0} (v : Layout) (x : ℕ) (old new : WorkMoment) (result : Result T ImageFault) :
+pub record ReadsPlace {T : Type 0} (v : Layout) (dir : ℕ) (old new : WorkMoment) (result : Result T ImageFault) :
     Type 0 where
   pub reads : OnlyReads v old.image new.image old.workspace new.workspace result
   pub counted : ReadsFew 1 old.reads new.reads old.workspace new.workspace
-  pub again : HoldsPlaceOf v old.workspace x → new.reads ≤ old.reads
+  pub again : HoldsPlaceOf v old.workspace dir → new.reads ≤ old.reads
   pub held : ForContents old.image.contents
-      (λ b. IsNoted v b old.workspace.queue.items x → OnOk result (HoldsPlaceOf v new.workspace x))
+      (λ b. IsNoted v b old.workspace.queue.items dir → OnOk result (HoldsPlaceOf v new.workspace dir))
 
--- an image was asked for the part that is noted as the place of x, once at most, and for nothing else
-abbrev pub AsksForPlace : {I : Type 0} → (was_read : I → ℕ → ℕ → I → Type 0) → Layout → Workspace → (x : ℕ) → (old new : I)
-    → Type 0
-AsksForPlace was_read v w x old new = ReadsAtMostOnce was_read
-    (part_size v * (part_in (slice_index w.queue.items x) - 1)) (part_size v) old new
+-- an image was asked for the part that is noted as the place of `dir`, once at most, and for nothing else
+abbrev pub AsksForPlace : {I : Type 0} → (was_read : I → ℕ → ℕ → I → Type 0) → Layout → Workspace → (dir : ℕ)
+    → (old new : I) → Type 0
+AsksForPlace was_read v w dir old new = ReadsAtMostOnce was_read
+    (part_size v * (part_in (slice_index w.queue.items dir) - 1)) (part_size v) old new
 
--- a call for the name of the directory x reads the part of its place alone, where that is noted
-pub record ReadsName {T : Type 0} (v : Layout) (x : ℕ) (old new : WorkMoment) (result : Result T ImageFault) :
+-- a call for the name of the directory `dir` reads the part of its place alone, where that is noted
+pub record ReadsName {T : Type 0} (v : Layout) (dir : ℕ) (old new : WorkMoment) (result : Result T ImageFault) :
     Type 0 where
   pub reads : OnlyReads v old.image new.image old.workspace new.workspace result
   pub counted : ForContents old.image.contents
-      (λ b. IsNoted v b old.workspace.queue.items x → ReadsPartOf v x old new result)
+      (λ b. IsNoted v b old.workspace.queue.items dir → ReadsPartOf v dir old new result)
 
 -- the image gives these bytes, the workspace holds what the block check and the survey leave, and
 -- it notes the place of each directory that is reached
@@ -95,9 +96,9 @@ abbrev pub ReadsAtMost : Layout → (most : ℕ) → (old new : WorkMoment) → 
 ReadsAtMost v most old new = (b : List ℕ) → KnowsPlaces v old.image.contents old.workspace b
     → ReadsFew most old.reads new.reads old.workspace new.workspace
 
--- how many names lead down to the directory x, none where it isn't reached
+-- how many names lead down to the directory `dir`, none where it isn't reached
 abbrev pub names_to : Graph → ℕ → ℕ
-names_to g x = unwrap_or (level g x) 0
+names_to g dir = unwrap_or (level g dir) 0
 
 -- the way up to the root: a read for each name that has room in a path, and one for one that has
 -- none any more. Each name takes two bytes at least, with its slash
@@ -108,14 +109,14 @@ climb_reads = MAXPATHLEN / 2 + 1
 abbrev pub EachTakesAtMost : (n : ℕ) → Layout → List ℕ → Type 0
 EachTakesAtMost n v b = (dir : ℕ) → directory_cost v b dir ≤ n
 
--- a call for the path of the directory x leaves all of the workspace but its windows. Where each place is
+-- a call for the path of the directory `dir` leaves all of the workspace but its windows. Where each place is
 -- noted, it makes a read at most for each name of that path, and no more than the way up takes. Where some
 -- aren't, for each name it may read all of the directory that has it, too
-pub record ReadsNames {T : Type 0} (v : Layout) (x : ℕ) (old new : WorkMoment) (result : Result T ImageFault) :
+pub record ReadsNames {T : Type 0} (v : Layout) (dir : ℕ) (old new : WorkMoment) (result : Result T ImageFault) :
     Type 0 where
   pub reads : OnlyReads v old.image new.image old.workspace new.workspace result
   pub counted : ReadsAtMost v climb_reads old new
   pub names : (b : List ℕ) → KnowsPlaces v old.image.contents old.workspace b
-      → new.reads ≤ old.reads + names_to (graph_of (volume_of v b)) x
+      → new.reads ≤ old.reads + names_to (graph_of (volume_of v b)) dir
   pub searched : (b : List ℕ) (n : ℕ) → WithSurvey v old.image old.workspace b → EachTakesAtMost n v b
-      → new.reads ≤ old.reads + names_to (graph_of (volume_of v b)) x * (1 + n)
+      → new.reads ≤ old.reads + names_to (graph_of (volume_of v b)) dir * (1 + n)

@@ -5,12 +5,12 @@ use Rattle.ffs_volume.specs.Directories.{PathnameCheck.header_lines, Paths.dir_p
 use Rattle.ffs_volume.proofs.VerdictLaws.{header_silent, some_header}
 use Rattle.ffs_report.proofs.{Reports.said_none, Paying.{paid_none, paid_reads, paid_says, paid_stops}}
 use Rattle.ffs_report.proofs.Reporting.{of_begins, of_says, of_stops, of_reads}
-use Rattle.ffs_pathnames.specs.{HeaderValues.{defects_value, facts_lines}, DirectoryContext.KnowsHeader}
+use Rattle.ffs_pathnames.specs.HeaderValues.{defects_value, facts_lines, KnowsHeader}
 use Rattle.ffs_pathnames.proofs.{Begun.attr_is, LineCounts.{by_line, few_none, knows_places, some_said}}
 use Rattle.ffs_paths.proofs.Climbed.{few_more}
 use Rattle.ffs_pathnames.proofs.HeaderLaws.{header_value_silent}
-use Rattle.ffs_pathnames.proofs.tree.report_header.{Given.Over, Goals.{After-put_path, After-say_header}}
-use Rattle.ffs_pathnames.proofs.tree.report_header.Goals as goal
+use Rattle.ffs_pathnames.proofs.header.report_header.{Given.Over, Goals.{After-put_path, After-say_header}}
+use Rattle.ffs_pathnames.proofs.header.report_header.Goals as goal
 
 -- a header that isn't right has a line
 some_line : (g : Over) (c : After-put_path g) (b : List ℕ) →

@@ -6,7 +6,7 @@ use Rattle.ffs_workspace.{specs.declared.workspace.Workspace.Workspace, proofs.L
 use Rattle.ffs_report.proofs.{Paying.paid_none, Reporting.{of_begins, of_same, reports_same, reports_knowing}}
 use Rattle.ffs_pathnames.proofs.Carrying.{directory_context, if_ok, lines_looked, lines_skipped, noted_next, before_skipped}
 use Rattle.ffs_pathnames.specs.ReadsLeft.{LeftForBoth, LeftForNext}
-use Rattle.ffs_pathnames.proofs.tree.check_if_needed.Goals as goal
+use Rattle.ffs_pathnames.proofs.directories.check_if_needed.Goals as goal
 
 -- what is known of a directory that is looked at
 both : {v : Layout} {device : Device} {w : Workspace} {d left : ℕ} {b : List ℕ} →

@@ -1,26 +1,24 @@
-//! The check of directories, one after another, by number.
-ghost use Rattle.std.specs.Prelude.{◌≡◌, ◌-◌, ◌<◌, ◌≤◌, ℕ, false, vec_len, List, option_map};
-ghost use Rattle.ffs_volume.specs.{declared.Layout.Layout, Messages.Kinds.lines_from, Directories.Parents.graph_of};
-ghost use Rattle.ffs_volume.specs.Directories.{Graph.parent, Volumes.volume_of, PathnameCheck.directory_lines};
+//! The check of directories, one after another, by number: which need one, and for each its first
+//! look, its header and its entries.
+ghost use Rattle.std.specs.Prelude.{◌≡◌, ◌-◌, ◌<◌, ◌≤◌, ℕ, false};
+ghost use Rattle.ffs_volume.specs.{Messages.Kinds.lines_from, Directories.PathnameCheck.directory_lines};
 ghost use Rattle.ffs_volume.specs.Blocks.Inodes.{inodes_of};
-ghost use Rattle.ffs_pathnames.specs.{ReadsLeft.LeftForBoth, Ready.{ReadyToCheck, ReadyToPath}, Begins.AreFirstTwo};
+ghost use Rattle.ffs_pathnames.specs.{ReadsLeft.LeftForBoth, Ready.ReadyToCheck};
 ghost use Rattle.ffs_pathnames.specs.Before.{ListsInode, ListsInodes, IsFirstToCheck, needs_check};
-ghost use Rattle.ffs_pathnames.specs.DirectoryLines.{ReadsQuietOnce, ReportsDirectory, ReportsHeader, ReportsTree};
+ghost use Rattle.ffs_pathnames.specs.DirectoryLines.{ReadsQuietOnce, ReportsDirectory, ReportsTree};
 ghost use Rattle.ffs_pathnames.specs.{Tasks.{begin_task, check_task, sized_task}, Moments.lines_moment};
-ghost use Rattle.ffs_workspace.specs.{Holds.HoldsSurvey, Ready.CanRead};
-ghost use Rattle.ffs_layout.specs.Entry.{entry_value};
+ghost use Rattle.ffs_workspace.specs.{Ready.CanRead};
 
 use crate::entries::report_entries;
-use crate::entry_texts::{Checking, EntryTexts, put_path};
-use crate::header::{HeaderFacts, header_defects, say_header};
+use crate::entry_texts::{Checking, EntryTexts};
+use crate::header::{HeaderFacts, first_two, found_parent, report_header};
 use crate::look::{Directory, Examination, examine};
 use ffs_image::Image;
-use ffs_layout::{Entry, Geometry, entry_at};
+use ffs_layout::Geometry;
 use ffs_names::note_places;
-use ffs_paths::{KeptParent, PathText};
 use ffs_report::{Output, Report, RunFault};
+use ffs_volume::Attr;
 use ffs_volume::constants::{DIRBLKSIZ, DT_DIR, ROOTINO};
-use ffs_volume::{Attr, Order};
 use ffs_workspace::{Workspace, sweep_reads};
 
 /// Says the lines of each directory and of its entries, in the order of inode numbers. The places
@@ -215,65 +213,4 @@ fn begin_directory<I: Image, W: Output>(
         report,
     )?;
     Ok(examined)
-}
-
-/// The parent of a directory, as the survey found it.
-#[tactic(auto, using(std::proofs::lemmas::List::get_or_read_under, crate::proofs::FirstTwo::none_back))]
-fn found_parent(workspace: &Workspace, dir: u32) -> Option<u32>
-    requires { dir < vec_len workspace.now.parents }
-    ensures { (v : Layout) (b : List ℕ) → HoldsSurvey v b workspace.now → result
-        ≡ parent (graph_of (volume_of v b)) dir }
-{
-    let parent = workspace.parents[dir as usize];
-    if parent == 0 {
-        return None;
-    }
-    Some(parent)
-}
-
-/// The first two entries of the chunk at the start of a directory, if that was found.
-fn first_two<'a>(
-    order: Order,
-    started: bool,
-    start: &'a [u8; DIRBLKSIZ],
-) -> (Option<Entry<'a>>, Option<Entry<'a>>)
-    ensures { AreFirstTwo (option_map entry_value result.0) (option_map entry_value result.1)
-        started order start.now }
-{
-    if !started {
-        return (None, None);
-    }
-    match entry_at(order, start, 0) {
-        None => (None, None),
-        Some(entry) => {
-            let second = entry_at(order, start, usize::from(entry.length));
-            (Some(entry), second)
-        }
-    }
-}
-
-/// Says the lines of a directory that come before those of its entries.
-fn report_header<I: Image, W: Output>(
-    geometry: &Geometry,
-    image: &mut I,
-    workspace: &mut Workspace,
-    kept_parent: &mut KeptParent,
-    header: HeaderFacts<'_>,
-    report: &mut Report<'_, W>,
-) -> Result<(), RunFault>
-    requires { ReadyToPath geometry.now.layout (I.device image.old) workspace.old kept_parent.old
-        header.attr.number }
-    ensures { ReportsHeader geometry.now.layout header.entry
-        (lines_moment I.Image W.Output image.old workspace.old report.old kept_parent.old)
-        (lines_moment I.Image W.Output image.new workspace.new report.new kept_parent.new) result }
-{
-    let defects = header_defects(&header);
-    if defects.is_silent() {
-        return Ok(());
-    }
-    let mut path = PathText::new();
-    let number = header.attr.number;
-    put_path(geometry, image, workspace, kept_parent, number, &mut path)?;
-    say_header(&defects, header.attr, path.as_slice(), report)?;
-    Ok(())
 }

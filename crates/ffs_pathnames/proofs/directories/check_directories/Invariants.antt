@@ -7,7 +7,7 @@ use Rattle.ffs_volume.specs.Costs.DirectoryReads.{is_looked_at, places_cost, cos
 use Rattle.ffs_volume.specs.Costs.DirectoryReads.{directory_cost}
 use Rattle.ffs_pathnames.specs.{ChecksNeeded.ChecksLookedAt, Ready.ReadyWith, Before.{IsBefore, IsBeforeNoted}}
 use Rattle.ffs_workspace.specs.Leaves.{LeavesFindings}
-use Rattle.ffs_pathnames.proofs.tree.check_directories.Given as goal
+use Rattle.ffs_pathnames.proofs.directories.check_directories.Given as goal
 
 abbrev pub invariant-loop-number : goal.invariant-loop-number
 invariant-loop-number g l =

@@ -9,12 +9,12 @@ use Rattle.ffs_report.proofs.Paying.{paid_fault, paid_none, paid_then}
 use Rattle.ffs_pathnames.specs.{ReadsLeft.LeftForLook, declared.look.Examination.Examination}
 use Rattle.ffs_pathnames.{specs.DirectoryContext.DirectoryContext, proofs.{Passing.knows_on, Begun.said_same}}
 use Rattle.ffs_pathnames.proofs.{Begun.{fault_same, image_same, starts_are, begun_is}, StampLaws.windows_keep}
-use Rattle.ffs_pathnames.proofs.{StampLaws.{keep_more, noted_kept}, tree.begin_directory.Given.Over}
-use Rattle.ffs_pathnames.proofs.tree.begin_directory.Goals.{After-report_header}
+use Rattle.ffs_pathnames.proofs.{StampLaws.{keep_more, noted_kept}, directories.begin_directory.Given.Over}
+use Rattle.ffs_pathnames.proofs.directories.begin_directory.Goals.{After-report_header}
 use Rattle.ffs_workspace.proofs.Leaving.{leaves_more, survey_left, windows_leave}
 use Rattle.ffs_paths.proofs.Keeping.{kept_parent_on}
 use Rattle.ffs_layout.specs.Entry.{entry_value}
-use Rattle.ffs_pathnames.proofs.tree.begin_directory.Goals as goal
+use Rattle.ffs_pathnames.proofs.directories.begin_directory.Goals as goal
 
 abbrev Known : (g : Over) → After-report_header g → List ℕ → Type 0
 Known g c = LeftForLook c.args.geometry.now.layout (g.I.Image.device c.args.image.now) c.args.workspace.now c.args.dir

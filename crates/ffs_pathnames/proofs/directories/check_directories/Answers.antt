@@ -10,11 +10,11 @@ use Rattle.ffs_workspace.proofs.Leaving.{queue_leaves}
 use Rattle.ffs_pathnames.proofs.Findings.{findings_kept, findings_more, findings_noted}
 use Rattle.ffs_pathnames.{specs.Before.{IsBeforeNoted, IsBefore}, proofs.{Begun.image_same, Carrying.noted_reported}}
 use Rattle.ffs_pathnames.{proofs.Skipping.{noted_before, unseen}, specs.ReadsLeft.LeftForNext}
-use Rattle.ffs_pathnames.proofs.{tree.check_directories.{Given.Over, Goals.After-check_if_needed}, ChecksNeededLaws.flags_kept}
+use Rattle.ffs_pathnames.proofs.{directories.check_directories.{Given.Over, Goals.After-check_if_needed}, ChecksNeededLaws.flags_kept}
 use Rattle.ffs_pathnames.proofs.ChecksNeededLaws.{look_next, looked_at_next, places_noted}
 use Rattle.ffs_survey.proofs.Costs.{cost_take, costs_rise}
 use Rattle.ffs_names.proofs.{DirCosts.noted_all_within, Limits.costs_within}
-use Rattle.ffs_pathnames.proofs.tree.check_directories.Goals as goal
+use Rattle.ffs_pathnames.proofs.directories.check_directories.Goals as goal
 
 -- what is known before an inode, and what is left suffices for it
 next : (g : Over) (c : After-check_if_needed g) (b : List ℕ) → IsBefore c.args.geometry.now.layout

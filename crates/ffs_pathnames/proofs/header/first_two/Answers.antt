@@ -2,7 +2,7 @@ use Rattle.std.proofs.Common.{arith, sym, ap, ◌∙◌, option_map}
 use Rattle.ffs_volume.specs.Directories.Entries.{entry_at}
 use Rattle.ffs_layout.specs.Entry.{entry_value}
 use Rattle.ffs_pathnames.proofs.FirstTwo.{none_found, first_found, second_found}
-use Rattle.ffs_pathnames.proofs.tree.first_two.Goals as goal
+use Rattle.ffs_pathnames.proofs.header.first_two.Goals as goal
 
 pub returns-in-None : goal.returns-in-None
 returns-in-None c = grind (arith, none_found)

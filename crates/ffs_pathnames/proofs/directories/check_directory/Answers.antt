@@ -13,9 +13,9 @@ use Rattle.ffs_pathnames.proofs.Begun.{directory_is, lines_parts, quiet_parts, r
 use Rattle.ffs_pathnames.proofs.{Begun.{reported_after, starts_within}, Passing.knows_on, StampLaws.keep_more}
 use Rattle.ffs_pathnames.proofs.{StampLaws.noted_kept, LineCounts.{checked_twice, lines_long}, Carrying.if_ok}
 use Rattle.ffs_pathnames.{proofs.ChecksNeededLaws.flags_after, specs.ReadsLeft.{LeftForBoth, LeftForLook, LeftForRuns}}
-use Rattle.ffs_pathnames.proofs.tree.check_directory.{Given.Over, Goals.{After-begin_directory, After-report_entries}}
+use Rattle.ffs_pathnames.proofs.directories.check_directory.{Given.Over, Goals.{After-begin_directory, After-report_entries}}
 use Rattle.ffs_names.proofs.DirCosts.{cost_is as cost_of_dir}
-use Rattle.ffs_pathnames.proofs.tree.check_directory.Goals as goal
+use Rattle.ffs_pathnames.proofs.directories.check_directory.Goals as goal
 
 abbrev Known : (g : Over) → After-begin_directory g → List ℕ → Type 0
 Known g c = LeftForBoth c.args.geometry.now.layout (g.I.Image.device c.args.image.now) c.args.workspace.now c.args.dir
