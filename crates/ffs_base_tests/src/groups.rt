@@ -3,7 +3,7 @@
 ghost use Rattle.std.specs.Prelude.{◌≡◌, IfOk};
 
 use crate::compare::same;
-use ffs_groups::{GroupFindings, Usage, compare_group, group_counts};
+use ffs_groups::{GroupFindings, InUse, compare_group, group_counts};
 use ffs_layout::Order;
 use ffs_maps::FragmentMap;
 use ffs_samples::{Number, geometry, put};
@@ -90,11 +90,11 @@ fn findings(summary: [u8; 4], wrong: Number, alloc: Global) -> Result<[bool; 4],
     let kinds = kinds_of_root();
     let counts = group_counts(&geometry, &used, &kinds, 0);
     let (record, block) = records(summary, wrong);
-    let usage = Usage {
+    let in_use = InUse {
         fragments: &used,
         kinds: &kinds,
     };
-    let right = compare_group(&geometry, &usage, &counts, 0, &record, &block);
+    let right = compare_group(&geometry, &in_use, &counts, 0, &record, &block);
     Ok(reported(right))
 }
 

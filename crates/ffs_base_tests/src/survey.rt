@@ -245,9 +245,9 @@ fn leaders(alloc: Global) -> Result<([bool; 8], [bool; 4]), AllocError> {
     let marked = flags(&[false; 8], alloc)?;
     let named = flags(&NAMED, alloc)?;
     let reached = flags(&REACHED, alloc)?;
-    let mut queue = numbers(&[7; 8], alloc)?;
+    let mut walk_of = numbers(&[7; 8], alloc)?;
     let mut leaders = flags(&[true; 8], alloc)?;
-    flag_leaders(&parents, &mut queue, &mut leaders);
+    flag_leaders(&parents, &mut walk_of, &mut leaders);
     let surveyed = Surveyed {
         kinds: &KINDS,
         marked: &marked,

@@ -30,7 +30,7 @@ use Rattle.ffs_claims.specs.Phases.{IsLeftByPhase1, Phase1Keeps, Phase1Reads}
 use Rattle.ffs_pathnames.specs.{declared.pass2.Root.{Root, TheVariants.{Go, Stop}}, Phase2.{Phase2Ends, Phase2Reads}, RootAnswers.is_go}
 use Rattle.ffs_workspace.specs.{declared.workspace.Workspace.Workspace, Leaves.{LeavesBlockCheck, LeavesSurvey}}
 use Rattle.ffs_workspace.specs.{Ready.IsReady, Found.{WithFresh, WithClaims, WithSurvey, WithFindings}}
-use Rattle.ffs_workspace.specs.Holds.{HoldsClaims, HoldsFindings}
+use Rattle.ffs_workspace.specs.Holds.{HoldsBlockCheck, HoldsFindings}
 use Rattle.ffs_workspace.proofs.Leaving.{claims_held, claims_left, references_left, survey_left}
 use Rattle.ffs_check.proofs.Stages.{some_more, more_after, root_or_more, Left, each, Point, Given, Stage, report_at}
 use Rattle.ffs_check.proofs.Stages.{RunsPhases, Spends, Ran, begun, phase1_done, phase1b_done, Rooted, phase2_done}
@@ -178,7 +178,7 @@ module _ (s : Superblock) where
   rescanned : {d on on' : Device} {w u u' : Workspace} {start report : Progress} {reads now : ℕ}
       (r : Result (Unit {0}) RunFault) → Stage s d w start reads (phase1_done s w u) on report now →
       RescanLeaves s.layout on on' u u' r → OnOk r (AnswersAfterPhases true (WithFresh s.layout d w) s.layout w u'
-      × ForBytes (WithLeftByPhase1 s.layout on u) (λ bytes. HoldsClaims s.layout bytes u'
+      × ForBytes (WithLeftByPhase1 s.layout on u) (λ bytes. HoldsBlockCheck s.layout bytes u'
       × (u'.surveyed ≡ false)))
   rescanned (Ok x) at again = (
     record {
@@ -352,15 +352,15 @@ module _ (s : Superblock) where
 
 -- what the summary says is its part of the text
 summary_right : (s : Superblock) (u : Workspace) (files claimed : ℕ) →
-    ForBytes (λ bytes. HoldsClaims s.layout bytes u) (λ bytes. files ≡ file_count s.layout bytes) →
-    ForBytes (λ bytes. HoldsClaims s.layout bytes u) (λ bytes. claimed ≡ claimed_count s.layout bytes) →
-    ForBytes (λ bytes. HoldsClaims s.layout bytes u)
+    ForBytes (λ bytes. HoldsBlockCheck s.layout bytes u) (λ bytes. files ≡ file_count s.layout bytes) →
+    ForBytes (λ bytes. HoldsBlockCheck s.layout bytes u) (λ bytes. claimed ≡ claimed_count s.layout bytes) →
+    ForBytes (λ bytes. HoldsBlockCheck s.layout bytes u)
     (λ bytes. summary_of s files claimed ∷ [] ≡ summary_messages bytes s)
 summary_right s u files claimed e f bytes k = rw (e bytes k, f bytes k) refl
 
 summary_ran : {T : Type 0} (s : Superblock) (u : Workspace) (report report' : Progress) (r : Result T RunFault) →
     ((image : Device) → ImageAfter image image r) → SaysSummary s u report report' r → (image : Device) →
-    Ran (λ bytes. HoldsClaims s.layout bytes u) (λ bytes. summary_messages bytes s) image image report report' r
+    Ran (λ bytes. HoldsBlockCheck s.layout bytes u) (λ bytes. summary_messages bytes s) image image report report' r
 summary_ran s u report report' (Ok x) kept say image = record {
   image = kept image;
   text = record {

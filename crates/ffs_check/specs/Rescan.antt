@@ -8,7 +8,7 @@ use Rattle.ffs_volume.specs.{declared.Layout.Layout, Blocks.Owners.owners_of}
 use Rattle.ffs_volume.specs.{Blocks.BlockCheck.{has_rescan, rescan_runs}}
 use Rattle.ffs_volume.specs.{Report.Reads.sweep_reads}
 use Rattle.ffs_volume.specs.{Report.Whole.run_count, Costs.VolumeReads.rescan_reads}
-use Rattle.ffs_workspace.specs.{declared.workspace.Workspace.Workspace, Holds.HoldsClaims, Ready.IsReady}
+use Rattle.ffs_workspace.specs.{declared.workspace.Workspace.Workspace, Holds.HoldsBlockCheck, Ready.IsReady}
 use Rattle.ffs_claims.specs.Phases.{IsLeftByPhase1}
 
 -- the image gives the bytes, and the workspace is left by phase 1: `WithPhase1` and more
@@ -31,7 +31,7 @@ AnswersDups v bytes old new = (new.has_dups ≡ old.has_dups) ⊎ (new.has_dups 
 -- `has_dups` answers and the count of phase 1's Runs stay, nothing is surveyed yet, and it is ready for the next phase
 pub record RescanLeaves (v : Layout) (d d' : Device) (w w' : Workspace) (result : Result (Unit {0}) RunFault) : Type 0
   where
-    pub holds : OnOk result (ForBytes (WithLeftByPhase1 v d w) (λ bytes. HoldsClaims v bytes w'))
+    pub holds : OnOk result (ForBytes (WithLeftByPhase1 v d w) (λ bytes. HoldsBlockCheck v bytes w'))
     pub answers : OnOk result (ForBytes (WithLeftByPhase1 v d w) (λ bytes. HasAnswers v bytes w w'))
     pub has_dups : w'.has_dups ≡ w.has_dups
     pub seen : w'.runs_seen ≡ w.runs_seen

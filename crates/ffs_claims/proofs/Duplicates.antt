@@ -19,7 +19,7 @@ use Rattle.ffs_volume.specs.declared.BlockMessage.TheVariants.{Bad, ManyBad, Par
 use Rattle.ffs_volume.specs.declared.{BlockMessage.TheVariants.{UnknownType, BlockCount}, Class.Class}
 use Rattle.ffs_volume.specs.declared.{Class.TheVariants.{Partial, Unknown}, Layout.Layout, Step.{Step, TheVariants.Run}}
 use Rattle.ffs_volume.specs.declared.Step.TheVariants.{Tail, Gap}
-use Rattle.ffs_workspace.{proofs.Leaving.counts_unsurveyed, specs.Holds.{HoldsPhase1, HoldsClaims}}
+use Rattle.ffs_workspace.{proofs.Leaving.counts_unsurveyed, specs.Holds.{HoldsPhase1, HoldsBlockCheck}}
 use Rattle.ffs_workspace.specs.declared.workspace.Workspace.{Workspace}
 use Rattle.ffs_claims.proofs.Numbers.{before_first}
 
@@ -212,7 +212,7 @@ none_first bits (o ∷ os) e = grind (arith, none_clear, none_first bits os)
 
 -- where there is no Dup line, phase 1 leaves what phase 1b would
 pub no_rescan : (v : Layout) (image : List ℕ) (w : Workspace) → has_rescan v (owners_of v image) ≡ false →
-    HoldsPhase1 v image w → HoldsClaims v image w
+    HoldsPhase1 v image w → HoldsBlockCheck v image w
 unfolding all_claims phase1b_lines
 no_rescan v image w none h = grind (arith, counts_unsurveyed, marked_total, none_first, rescan_is)
 

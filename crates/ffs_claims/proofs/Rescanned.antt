@@ -16,7 +16,7 @@ use Rattle.ffs_volume.specs.{Report.Whole.run_count, declared.{Layout.Layout, St
 use Rattle.ffs_volume.specs.{Encodings.Notes.{cut_in, note_at}}
 use Rattle.ffs_volume.specs.Blocks.BlockCheck.{after_first, owners_runs, runs_until_reported, set_count}
 use Rattle.ffs_workspace.proofs.{Leaving.counts_unsurveyed, NoteLaws.cut_is_noted}
-use Rattle.ffs_workspace.specs.{Holds.{HoldsPhase1, HoldsClaims}, declared.workspace.Workspace.Workspace}
+use Rattle.ffs_workspace.specs.{Holds.{HoldsPhase1, HoldsBlockCheck}, declared.workspace.Workspace.Workspace}
 use Rattle.ffs_claims.proofs.{Duplicates.marked_total, Numbers.{before_end, is_inside}, RescanCounts.looked_both}
 use Rattle.ffs_claims.proofs.{RescanCounts.{runs_leave, inode_again, inode_indirect}, StepsContinue.range_more}
 use Rattle.ffs_claims.specs.{Claiming.ReadsIndirect, Lines.owners_from, Reporting.{OffersReported, Phase1bKeeps}}
@@ -211,6 +211,6 @@ outside v bytes x = known (is_inode_number v x) _ (λ q. blames_none_of x
 
 -- all offers are gone over: the workspace holds the claims
 pub claims_hold : (v : Layout) (bytes : List ℕ) (old new : Workspace) → HoldsPhase1 v bytes old → Phase1bKeeps old new →
-    OffersReported (kept_in_owners v (no_claims v) (owners_of v bytes)) old new → HoldsClaims v bytes new
+    OffersReported (kept_in_owners v (no_claims v) (owners_of v bytes)) old new → HoldsBlockCheck v bytes new
 unfolding all_claims phase1b_lines
 claims_hold v bytes old new h same t = grind (arith, outside, marked_total, counts_unsurveyed)

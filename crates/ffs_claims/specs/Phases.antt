@@ -14,7 +14,7 @@ use Rattle.ffs_volume.specs.{Costs.VolumeReads.{indirect_count, volume_scan_read
 use Rattle.ffs_image.specs.Known.{ForBytes, IsContents}
 use Rattle.ffs_workspace.specs.{declared.workspace.Workspace.Workspace, Found.{WithFresh, WithPhase1}}
 use Rattle.ffs_workspace.specs.Lengths.{has_unreported_dups}
-use Rattle.ffs_workspace.specs.Holds.{HoldsClaims, HoldsPhase1, bool_at}
+use Rattle.ffs_workspace.specs.Holds.{HoldsBlockCheck, HoldsPhase1, bool_at}
 use Rattle.ffs_claims.specs.{Leaves.{ClaimsAndFinds, StaySet}, Lines.of_lines, RescanRuns.rescan_end}
 use Rattle.ffs_claims.specs.Reporting.{OffersReported, ReportedInPart}
 
@@ -57,7 +57,7 @@ pub record Phase1Keeps {T E : Type 0} (old new : Workspace) (result : Result T E
 -- references are where they start. It has reported the first kept offer of each fragment with a DUP line,
 -- and looked at Runs up to the one that reports the last of them
 pub record IsLeftByPhase1b (v : Layout) (bytes : List ℕ) (w : Workspace) : Type 0 where
-  pub claims : HoldsClaims v bytes w
+  pub claims : HoldsBlockCheck v bytes w
   pub unsurveyed : w.surveyed ≡ false
   pub reported : has_unreported_dups w ≡ false
   pub count : w.runs_again ≡ rescan_runs v bytes

@@ -13,7 +13,7 @@ use Rattle.ffs_groups.specs.{declared.counts.SummaryCounts.SummaryCounts, Check.
 use Rattle.ffs_groups.{specs.Inodes.class_in, proofs.Sums.sum_more}
 use Rattle.ffs_report.{specs.Progress.{Progress, Said, Stopped, Says}, proofs.Reports.{says_then, stopped_after}}
 use Rattle.ffs_report.proofs.Reports.{stopped_more}
-use Rattle.ffs_workspace.specs.{declared.workspace.Workspace.Workspace, Holds.HoldsClaims}
+use Rattle.ffs_workspace.specs.{declared.workspace.Workspace.Workspace, Holds.HoldsBlockCheck}
 use Rattle.ffs_counts.specs.{declared.totals.Totals.Totals, Once.reported_after, Totals.{AreTotals, AreUpTo, total_of}}
 use Rattle.ffs_counts.{specs.Totals.with_counts, proofs.Classes.by_kinds}
 
@@ -59,7 +59,7 @@ lines_after v totals w t c image = map of_blocks (reported_once t
     ++ unless (has_right_totals v (free_of v w) (class_in w.kinds.items) totals) FreeCounts))
 
 pub groups_begin : (v : Layout) (totals : List ℤ) (w : Workspace) (image : List ℕ) (t : AlreadyReported) →
-    t ≡ unreported → HoldsClaims v image w →
+    t ≡ unreported → HoldsBlockCheck v image w →
     map of_blocks (phase5_lines v image totals (is_free_of_kept v (owners_of v image)) (class_at v image))
     ≡ lines_after v totals w t 0 image
 unfolding phase5_lines all_claims

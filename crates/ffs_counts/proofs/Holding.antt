@@ -18,7 +18,7 @@ use Rattle.ffs_volume.specs.{Directories.Volumes.{marked_at, volume_of, volume_w
 use Rattle.ffs_volume.specs.{Disk.Numbers.i16_at, Encodings.Kinds.{kind_at, class_of_kind, is_empty_dir_kind}}
 use Rattle.ffs_volume.{specs.Messages.Kinds.{Message, TreeMessage, of_tree, lines_from}, proofs.LinkLaws.AreMet}
 use Rattle.ffs_volume.proofs.{LinkLaws.links_met, Numbered.all_from}
-use Rattle.ffs_workspace.specs.{declared.workspace.Workspace.Workspace, Holds.{HoldsClaims, HoldsFindings, bool_at}}
+use Rattle.ffs_workspace.specs.{declared.workspace.Workspace.Workspace, Holds.{HoldsBlockCheck, HoldsFindings, bool_at}}
 use Rattle.ffs_workspace.proofs.KindLaws.{suspect_is, some_is}
 use Rattle.ffs_counts.{specs.References.{reference_reported, is_dead_by, is_right_by}, proofs.Classes.same_test}
 
@@ -36,21 +36,21 @@ kind_tests : (free unknown dir : Bool) →
     is_allocated (if free then Free else (if unknown then Unknown else (if dir then Dir else File))) ≡ not free
 kind_tests free unknown dir = grind arith
 
-allocated_is : (v : Layout) (b : List ℕ) (w : Workspace) (i : ℕ) → HoldsClaims v b w →
+allocated_is : (v : Layout) (b : List ℕ) (w : Workspace) (i : ℕ) → HoldsBlockCheck v b w →
     is_allocated_inode (volume_of v b) i ≡ is_allocated (class_of_kind (slice_index w.kinds.items i))
 allocated_is v b w i h = grind (arith, some_is, kind_tests)
 
-pub no_lines : (v : Layout) (b : List ℕ) (w : Workspace) (i : ℕ) → HoldsClaims v b w →
+pub no_lines : (v : Layout) (b : List ℕ) (w : Workspace) (i : ℕ) → HoldsBlockCheck v b w →
     is_allocated (class_of_kind (slice_index w.kinds.items i)) ≡ false → reference_lines_at (volume_of v b) i ≡ []
 no_lines v b w i h e = ap (λ t. if t then inode_reference_lines (volume_of v b) i else []) (allocated_is v b w i h ∙ e)
 
-pub some_lines : (v : Layout) (b : List ℕ) (w : Workspace) (i : ℕ) → HoldsClaims v b w →
+pub some_lines : (v : Layout) (b : List ℕ) (w : Workspace) (i : ℕ) → HoldsBlockCheck v b w →
     is_allocated (class_of_kind (slice_index w.kinds.items i)) ≡ true →
     inode_reference_lines (volume_of v b) i ≡ reference_lines_at (volume_of v b) i
 some_lines v b w i h e = grind (arith, allocated_is)
 
 -- where the count of an allocated inode starts
-start_used : (v : Layout) (b : List ℕ) (w : Workspace) (i : ℕ) → HoldsClaims v b w →
+start_used : (v : Layout) (b : List ℕ) (w : Workspace) (i : ℕ) → HoldsBlockCheck v b w →
     is_allocated (class_of_kind (slice_index w.kinds.items i)) ≡ true →
     start_at v b i ≡ links_start (inode_of v b i).nlink
 unfolding start_at volume_of volume_with

@@ -4,7 +4,7 @@ ghost use Rattle.std.specs.Prelude.{◌+◌};
 ghost use Rattle.ffs_workspace.specs.Ready.{KeepsWindows};
 ghost use Rattle.ffs_counts.specs.Records.{AreReadOnce, AsksForGroup, AsksForRecords, CanReadGroup, CanReadRecord, GroupIsRead, ReadsRecord};
 
-use ffs_groups::{Counts, GroupFindings, Usage, compare_group};
+use ffs_groups::{Counts, GroupFindings, InUse, compare_group};
 use ffs_image::{Image, ImageFault};
 use ffs_layout::Geometry;
 use ffs_volume::constants::CSUM_SIZE;
@@ -74,13 +74,13 @@ pub fn read_group<I: Image>(
         .current
         .fill(image, place, geometry.layout.cgsize as usize)?;
     let records = windows.table.window.bytes();
-    let usage = Usage {
+    let in_use = InUse {
         fragments: &workspace.used,
         kinds: &workspace.kinds,
     };
     Ok(compare_group(
         geometry,
-        &usage,
+        &in_use,
         counts,
         group,
         &records[at..at + RECORD_SIZE],

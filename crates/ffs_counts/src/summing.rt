@@ -8,7 +8,7 @@ ghost use Rattle.ffs_report.specs.{Lines.message_of, Progress.progress, PhaseOut
 ghost use Rattle.ffs_image.specs.Device.{Device};
 ghost use Rattle.ffs_groups.specs.Inodes.{AreFew};
 ghost use Rattle.ffs_counts.specs.{Summary.SaysSummary, Summing.files_among, Reserved.{HasReserved, claimed_in}};
-ghost use Rattle.ffs_workspace.specs.{Holds.HoldsClaims, Lengths.IsFor};
+ghost use Rattle.ffs_workspace.specs.{Holds.HoldsBlockCheck, Lengths.IsFor};
 
 use ffs_layout::{Geometry, Super};
 use ffs_maps::{FragmentMap, reserved_count};

@@ -15,7 +15,7 @@ abbrev pub discarding : Sink
 discarding = record { taken = None; failures = 0; holds = None }
 
 -- a workspace holds which fragments are reserved or claimed, and of each inode its kind and what is noted of it. Phase
--- 1 leaves this, and it is a part of HoldsClaims too: all phases after 1b keep it
+-- 1 leaves this, and it is a part of HoldsBlockCheck too: all phases after 1b keep it
 pub record HoldsBlocks (v : Layout) (image : List ℕ) (w : Workspace) : Type 0 where
   pub used : bits_of w.used ≡ (all_claims v image).used
   pub kinds : (x : ℕ) → slice_index w.kinds.items x ≡ kind_at v image x

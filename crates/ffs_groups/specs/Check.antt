@@ -9,7 +9,8 @@ use Rattle.ffs_volume.specs.Groups.GroupCheck.{unless}
 use Rattle.ffs_layout.specs.declared.group.GroupSummary.{GroupSummary}
 use Rattle.ffs_maps.specs.Bits.{bits_of}
 use Rattle.ffs_groups.specs.{Free.free_in, Inodes.class_in, Inputs.HasMaps, declared.counts.Counts.Counts}
-use Rattle.ffs_groups.specs.declared.{counts.SummaryCounts.SummaryCounts, check.{GroupFindings.GroupFindings, Usage.Usage}}
+use Rattle.ffs_groups.specs.declared.{counts.SummaryCounts.SummaryCounts, check.GroupFindings.GroupFindings}
+use Rattle.ffs_groups.specs.declared.check.InUse.{InUse}
 
 -- the counts of a summary in memory, as the definitions have them
 abbrev pub group_counts_of : SummaryCounts → GroupCounts
@@ -42,30 +43,30 @@ lines_of f c =
     else GroupMagic c ∷ unless f.counts_right FreeCounts
 
 -- which fragments are free where these are used, and the class of each inode
-abbrev pub free_by : Layout → Usage → ℕ → Bool
-free_by v usage = free_in (bits_of usage.fragments.now) v.size
+abbrev pub free_by : Layout → InUse → ℕ → Bool
+free_by v in_use = free_in (bits_of in_use.fragments.now) v.size
 
-abbrev pub class_by : Usage → ℕ → Class
-class_by usage = class_in usage.kinds.now
+abbrev pub class_by : InUse → ℕ → Class
+class_by in_use = class_in in_use.kinds.now
 
 -- the maps of group c can be compared: a map of used fragments and the kinds of inodes are there, and
 -- its group block
-pub record CanCompareMaps (v : Layout) (usage : Usage) (c : ℕ) (block : List ℕ) : Type 0 where
-  pub maps : HasMaps v usage.fragments.now.size usage.kinds.now c
+pub record CanCompareMaps (v : Layout) (in_use : InUse) (c : ℕ) (block : List ℕ) : Type 0 where
+  pub maps : HasMaps v in_use.fragments.now.size in_use.kinds.now c
   pub block_length : length block ≡ v.cgsize
 
 -- so can all records of group c: its right counts are there too, and its record of the summary area, of CSUM_SIZE
 -- bytes
-pub record CanCompareGroup (v : Layout) (usage : Usage) (c : ℕ) (counts : Counts) (summary block : List ℕ) :
+pub record CanCompareGroup (v : Layout) (in_use : InUse) (c : ℕ) (counts : Counts) (summary block : List ℕ) :
     Type 0 where
-  pub maps : CanCompareMaps v usage c block
-  pub right_counts : AreCounts v (free_by v usage) (class_by usage) c counts
+  pub maps : CanCompareMaps v in_use c block
+  pub right_counts : AreCounts v (free_by v in_use) (class_by in_use) c counts
   pub summary_length : length summary ≡ 16
 
 -- each finding says whether the records of group c are right: in the summary area, and in its group
 -- block
-pub record AreFound (v : Layout) (usage : Usage) (c : ℕ) (summary block : List ℕ) (f : GroupFindings) : Type 0 where
+pub record AreFound (v : Layout) (in_use : InUse) (c : ℕ) (summary block : List ℕ) (f : GroupFindings) : Type 0 where
   pub magic : f.magic_right ≡ has_right_magic v block
-  pub counts : f.counts_right ≡ has_right_record v (free_by v usage) (class_by usage) c summary
-  pub maps : f.maps_right ≡ (maps_fit v block && has_right_maps v (free_by v usage) (class_by usage) c block)
-  pub sums : f.sums_right ≡ has_right_sums v (free_by v usage) (class_by usage) c block
+  pub counts : f.counts_right ≡ has_right_record v (free_by v in_use) (class_by in_use) c summary
+  pub maps : f.maps_right ≡ (maps_fit v block && has_right_maps v (free_by v in_use) (class_by in_use) c block)
+  pub sums : f.sums_right ≡ has_right_sums v (free_by v in_use) (class_by in_use) c block

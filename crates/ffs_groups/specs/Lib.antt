@@ -4,7 +4,7 @@
 --   group_counts                AreCounts (`Check`)
 --   compare_group               AreFound (`Check`)
 --   group_fragments             IsGroupSize (`Inputs`)
---   are_allocated               in words of its own, with class_in (`Inodes`)
+--   all_or_none_allocated       in words of its own, with class_in (`Inodes`)
 --   same_fragment_map           has_bits of the book
 --
 -- `Inputs` says what a group is counted from. `Free` is about what the free fragments of blocks add to its counts,

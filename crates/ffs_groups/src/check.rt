@@ -14,7 +14,7 @@ use ffs_volume::constants::CG_MAGIC;
 
 /// Which fragments and which inodes of a volume are in use.
 #[derive(Clone, Copy)]
-pub struct Usage<'a> {
+pub struct InUse<'a> {
     /// The fragments that are used.
     pub fragments: &'a FragmentMap,
     /// The kind of each inode.
@@ -83,20 +83,20 @@ fn places_fit(geometry: &Geometry, found: &Group) -> bool
 #[tactic(auto, unfolding(ffs_volume::specs::Groups::Records::maps_fit, ffs_volume::specs::Groups::Records::has_right_maps))]
 fn maps_are_right(
     geometry: &Geometry,
-    usage: &Usage<'_>,
+    in_use: &InUse<'_>,
     group: u32,
     found: &Group,
     block: &[u8],
 ) -> bool
-    requires maps { CanCompareMaps geometry.now.layout usage.now group block.now }
+    requires maps { CanCompareMaps geometry.now.layout in_use.now group block.now }
     requires numbers { found.now ≡ group_of geometry.now.layout.order block.now }
     ensures { result ≡ (maps_fit geometry.now.layout block.now
-        && has_right_maps geometry.now.layout (free_by geometry.now.layout usage.now)
-        (class_by usage.now) group block.now) }
+        && has_right_maps geometry.now.layout (free_by geometry.now.layout in_use.now)
+        (class_by in_use.now) group block.now) }
 {
     places_fit(geometry, found)
-        && same_inode_map(geometry, usage.kinds, group, block, found.iusedoff)
-        && same_fragment_map(geometry, usage.fragments, group, block, found.freeoff)
+        && same_inode_map(geometry, in_use.kinds, group, block, found.iusedoff)
+        && same_fragment_map(geometry, in_use.fragments, group, block, found.freeoff)
 }
 
 /// Whether the group block has the right number of its group, number of fragments, summary and
@@ -118,22 +118,22 @@ fn sums_are_right(geometry: &Geometry, counts: &Counts, group: u32, found: &Grou
 /// group block (fs(5)).
 pub fn compare_group(
     geometry: &Geometry,
-    usage: &Usage<'_>,
+    in_use: &InUse<'_>,
     counts: &Counts,
     group: u32,
     summary: &[u8],
     block: &[u8],
 ) -> GroupFindings
-    requires { CanCompareGroup geometry.now.layout usage.now group counts.now summary.now
+    requires { CanCompareGroup geometry.now.layout in_use.now group counts.now summary.now
         block.now }
-    ensures { AreFound geometry.now.layout usage.now group summary.now block.now result }
+    ensures { AreFound geometry.now.layout in_use.now group summary.now block.now result }
 {
     let found = Group::decode(geometry.layout.order, block);
     let record = GroupSummary::decode(geometry.layout.order, 0, summary);
     GroupFindings {
         magic_right: found.magic == CG_MAGIC,
         counts_right: same_summary(&record, &counts.summary),
-        maps_right: maps_are_right(geometry, usage, group, &found, block),
+        maps_right: maps_are_right(geometry, in_use, group, &found, block),
         sums_right: sums_are_right(geometry, counts, group, &found),
     }
 }

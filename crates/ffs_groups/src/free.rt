@@ -10,15 +10,15 @@ use crate::maps::group_fragments;
 use ffs_layout::Geometry;
 use ffs_maps::FragmentMap;
 
-/// How many fragments `are_free` is asked about at first. With one number for all times each that
-/// was tried was slower (SPEED.md).
+/// How many fragments `all_or_none_free` is asked about at first. With one number for all times
+/// each that was tried was slower (SPEED.md).
 pub const FEW_FRAGMENTS: u32 = 1024;
 
 /// How many it is asked about at most: after four doublings, where all before were alike.
 const MANY_FRAGMENTS: u32 = 16384;
 
-/// How many fragments `are_free` is asked about next: twice as many, where those before were alike,
-/// all free or all used. Then the next ones mostly are too.
+/// How many fragments `all_or_none_free` is asked about next: twice as many, where those before
+/// were alike, all free or all used. Then the next ones mostly are too.
 pub fn next_at_once(at_once: u32, alike: bool) -> u32
     requires { IsAtOnce at_once }
     ensures { IsAtOnce result }
@@ -34,7 +34,7 @@ pub fn next_at_once(at_once: u32, alike: bool) -> u32
 /// (`Some(false)`); else `None`. Where not all are alike, the first 64 from `start` on mostly
 /// aren't either: then no bit is counted. These 64 may reach beyond `end`: so `None` also comes
 /// where fewer than 64 are asked about and are alike, and one after them differs.
-pub fn are_free(used: &FragmentMap, start: u32, end: u32) -> Option<bool>
+pub fn all_or_none_free(used: &FragmentMap, start: u32, end: u32) -> Option<bool>
     requires { IsPart start end used.now.size }
     ensures { IfSome result (λ free. (k : ℕ) → k < end - start
         → free_in (bits_of used.now) used.now.size (start + k) ≡ free) }
@@ -166,7 +166,7 @@ impl FreeCounts {
         let size = used.size;
         let end = start + u64::from(blocks) * u64::from(frag);
         if end <= u64::from(size) {
-            match are_free(used, start as u32, end as u32) {
+            match all_or_none_free(used, start as u32, end as u32) {
                 Some(true) => {
                     self.blocks += u64::from(blocks);
                     return true;

@@ -44,7 +44,7 @@ pub fn is_used_at(kinds: &[u8], inode: usize) -> bool
 /// Whether the inodes of some kinds are all allocated (`Some(true)`), or none is (`Some(false)`),
 /// by the least and the greatest kind; else `None`. It sees no number, so inodes 0 and 1 are like
 /// others here.
-pub fn are_allocated(kinds: &[u8]) -> Option<bool>
+pub fn all_or_none_allocated(kinds: &[u8]) -> Option<bool>
     ensures { IfSome result (λ allocated. (k : ℕ) → k < length kinds.now
         → is_allocated (class_of_kind (slice_index kinds.now k)) ≡ allocated) }
 {

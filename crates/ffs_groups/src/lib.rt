@@ -2,15 +2,15 @@
 //! inodes, and the comparison of the image's records with them.
 //!
 //! `group_counts` counts what is right of a group (`Counts`, with the `SummaryCounts` of its
-//! record), by what is in use (`Usage`), and `compare_group` finds where its group block and its
+//! record), by what is in use (`InUse`), and `compare_group` finds where its group block and its
 //! summary record differ from it (`GroupFindings`). `same_fragment_map` compares its map of
-//! fragments alone, `group_fragments` says how many it has, and `are_allocated` whether all of some
-//! inodes are allocated, or none is.
+//! fragments alone, `group_fragments` says how many it has, and `all_or_none_allocated` whether
+//! all of some inodes are allocated, or none is.
 //!
 //! ```text
 //! let counts = group_counts(&geometry, &used, kinds, group);
-//! let usage = Usage { fragments: &used, kinds };
-//! let findings = compare_group(&geometry, &usage, &counts, group, summary, block);
+//! let in_use = InUse { fragments: &used, kinds };
+//! let findings = compare_group(&geometry, &in_use, &counts, group, summary, block);
 //! ```
 //!
 //! It rests on `ffs_maps` and `ffs_layout`.
@@ -22,7 +22,7 @@ mod free;
 mod inodes;
 mod maps;
 
-pub use check::{GroupFindings, Usage, compare_group};
+pub use check::{GroupFindings, InUse, compare_group};
 pub use counts::{Counts, SummaryCounts, group_counts};
-pub use inodes::are_allocated;
+pub use inodes::all_or_none_allocated;
 pub use maps::{group_fragments, same_fragment_map};

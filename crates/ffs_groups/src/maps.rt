@@ -9,8 +9,8 @@ ghost use Rattle.ffs_maps.specs.Bits.{bits_of};
 ghost use Rattle.ffs_groups.specs.{Free.free_in, Inodes.class_in, Inputs.{HasFragmentMap, HasInodeMap, IsGroupSize}};
 ghost use Rattle.ffs_groups.specs.MapParts.{AreFewIn, HasMapWords, IsClearAt, SetsBit};
 
-use crate::free::{FEW_FRAGMENTS, are_free, next_at_once};
-use crate::inodes::{are_allocated, is_used_at};
+use crate::free::{FEW_FRAGMENTS, all_or_none_free, next_at_once};
+use crate::inodes::{all_or_none_allocated, is_used_at};
 use byteorder::{ByteOrder, LittleEndian};
 use ffs_layout::Geometry;
 use ffs_maps::FragmentMap;
@@ -56,7 +56,7 @@ fn used_word(kinds: &[u8], first: usize, count: u32) -> u64
         ≡ is_used_inode (class_in kinds.now) (first + k) }
 {
     if first >= ROOTINO as usize {
-        if let Some(allocated) = are_allocated(&kinds[first..first + count as usize]) {
+        if let Some(allocated) = all_or_none_allocated(&kinds[first..first + count as usize]) {
             return filled(allocated);
         }
     }
@@ -186,7 +186,7 @@ fn all_same_words(used: &FragmentMap, base: u32, block: &[u8], place: usize, wor
     while word < words {
         let some = (at_once / 64).min(words - word);
         let start = base + 64 * word;
-        let known = are_free(used, start, start + 64 * some);
+        let known = all_or_none_free(used, start, start + 64 * some);
         if !same_words_at_once(used, start, block, place + 8 * word as usize, some, known) {
             return false;
         }

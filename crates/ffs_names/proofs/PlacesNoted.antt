@@ -20,7 +20,7 @@ use Rattle.ffs_volume.specs.Encodings.Places.{entries_in_chunk, entries_in_part,
 use Rattle.ffs_volume.specs.Encodings.Places.{part_size, part_in, AreParts, AreNoted, IsNoted}
 use Rattle.ffs_walk.specs.declared.{blocks.Blocks.Blocks, window.Window.Window}
 use Rattle.ffs_workspace.proofs.{Leaving.counts_same, PlaceLaws.{any_naming-roled, name_in-after, name_in-among}}
-use Rattle.ffs_workspace.{proofs.PlaceLaws.name_in-roled, specs.{Holds.{HoldsClaims, HoldsSurvey}, Ready.CanRead}}
+use Rattle.ffs_workspace.{proofs.PlaceLaws.name_in-roled, specs.{Holds.{HoldsBlockCheck, HoldsSurvey}, Ready.CanRead}}
 use Rattle.ffs_workspace.{specs.Tables.TableHolds, proofs.PartLaws.{begins_part, lies_in_part, BeginsPart}}
 use Rattle.ffs_workspace.specs.declared.{table.Table.Table, workspace.Workspace.Workspace}
 use Rattle.ffs_names.{proofs.InParts.named_in_part, specs.{Fits.CursorFits, RunCursors.{last_place, StepsOn}}}
@@ -304,7 +304,7 @@ pub survey_noted : {v : Layout} {b : List ℕ} {old new : Workspace} →
 survey_noted e h right = grind arith
 
 pub claims_noted : {v : Layout} {b : List ℕ} {old new : Workspace} →
-    new ≡ record old { windows = new.windows; queue = new.queue } → HoldsClaims v b old → HoldsClaims v b new
+    new ≡ record old { windows = new.windows; queue = new.queue } → HoldsBlockCheck v b old → HoldsBlockCheck v b new
 claims_noted {v = v} {b = b} {old = old} e h = grind (arith, counts_same)
 
 -- the windows hold what the image gives after the table, windows of chunks and the queue were used

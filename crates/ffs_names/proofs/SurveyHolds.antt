@@ -6,7 +6,7 @@ use Rattle.ffs_image.specs.Known.{ForBytes}
 use Rattle.ffs_volume.specs.{declared.Layout.Layout, Encodings.Kinds.kind_at, Directories.Parents.graph_of}
 use Rattle.ffs_volume.specs.Directories.{Roles.roled_entries, Volumes.{volume_of, volume_with}}
 use Rattle.ffs_volume.specs.{Encodings.Links.start_at, Blocks.Inodes.inodes_of, Costs.Calm.is_right_directory}
-use Rattle.ffs_workspace.specs.Holds.{HoldsClaims, HoldsReferences, HoldsTree}
+use Rattle.ffs_workspace.specs.Holds.{HoldsBlockCheck, HoldsReferences, HoldsTree}
 use Rattle.ffs_workspace.{proofs.Leaving.counts_surveyed, specs.Leaves.LeavesBlockCheck}
 use Rattle.ffs_workspace.specs.declared.workspace.Workspace.{Workspace}
 use Rattle.ffs_survey.specs.{Calm.AreCalm, Survey.{graph_with, most_start, references_to}}
@@ -56,7 +56,7 @@ holds_references v b old new {starts = starts} e c h s = record {
 
 -- the claims are held still, and what the survey found with them
 pub holds_claims : (v : Layout) (b : List ℕ) (old new : Workspace) → LeavesBlockCheck old new → new.surveyed ≡ true →
-    HoldsReferences v b new → HoldsTree v b new → HoldsClaims v b old → HoldsClaims v b new
+    HoldsReferences v b new → HoldsTree v b new → HoldsBlockCheck v b old → HoldsBlockCheck v b new
 holds_claims v b old new same surveyed references tree h = grind (arith, counts_surveyed)
 
 -- whether an answer is Ok is said of one that is not

@@ -6,7 +6,7 @@ use Rattle.ffs_volume.specs.{declared.Layout.Layout, Directories.{Roles.roled_en
 use Rattle.ffs_survey.specs.Calm.{AreCalm}
 use Rattle.ffs_volume.specs.{Costs.Calm.is_right_directory, Encodings.Lists.bool_at}
 use Rattle.ffs_workspace.specs.{declared.workspace.Workspace.Workspace, Leaves.LeavesBlockCheck, Ready.IsReady}
-use Rattle.ffs_workspace.specs.Holds.{HoldsClaims, HoldsReferences, HoldsSurvey}
+use Rattle.ffs_workspace.specs.Holds.{HoldsBlockCheck, HoldsReferences, HoldsSurvey}
 use Rattle.ffs_volume.specs.Costs.DirectoryReads.{sweep_costs}
 use Rattle.ffs_names.specs.{CalmDirs.FlagsEachCalm}
 
@@ -40,7 +40,7 @@ pub record IsSurveyed (v : Layout) (b : List ℕ) (w : Workspace) : Type 0 where
   pub survey : HoldsSurvey v b w
   pub references : HoldsReferences v b w
   pub surveyed : w.surveyed ≡ true
-  pub claims : HoldsClaims v b w
+  pub claims : HoldsBlockCheck v b w
   pub calm : FlagsOnlyCalm v b w
 
 -- a survey reads all directories: where no read failed, what it finds is held, and each calm directory has a

@@ -10,7 +10,7 @@ use Rattle.ffs_volume.specs.{Messages.Kinds.{TreeMessage, of_tree, lines_below, 
 use Rattle.ffs_volume.specs.{Blocks.Inodes.{is_allocated, inodes_of}, Encodings.Kinds.{is_dir_kind, is_empty_dir_kind}}
 use Rattle.ffs_volume.{specs.Encodings.Kinds.is_allocated_kind, proofs.SearchLaws.some_below-none}
 use Rattle.ffs_volume.proofs.{Numbered.all_from_root, Sizes.some_inodes}
-use Rattle.ffs_workspace.specs.{declared.workspace.Workspace.Workspace, Lengths.IsFor, Holds.{bool_at, HoldsClaims}}
+use Rattle.ffs_workspace.specs.{declared.workspace.Workspace.Workspace, Lengths.IsFor, Holds.{bool_at, HoldsBlockCheck}}
 use Rattle.ffs_workspace.{specs.{Holds.{HoldsReferences, HoldsSurvey}, Leaves.LeavesSurvey}, proofs.KindLaws.reports_at}
 use Rattle.ffs_workspace.proofs.{KindLaws.suspect_is, Leaving.{claims_left, survey_left, leaves_all}}
 use Rattle.ffs_pathnames.specs.{Gathers.passed_of, DirectoryContext.DirectoryContext, Before.{IsNonePassed, IsBefore}}
@@ -36,19 +36,19 @@ pub references_on : (v : Layout) (b : List ℕ) (old new : Workspace) → new.re
 references_on v b old new e h = record { counts = λ x l. rw e (h.counts x l) }
 
 -- which inodes are suspect, by the lists
-suspect_shown : (v : Layout) (b : List ℕ) (w : Workspace) (x : ℕ) → HoldsClaims v b w →
+suspect_shown : (v : Layout) (b : List ℕ) (w : Workspace) (x : ℕ) → HoldsBlockCheck v b w →
     suspect_at w.kinds.items w.marked.items x ≡ is_suspect (volume_of v b) x
 suspect_shown v b w x h = rw (h.kinds x, h.marked x) (sym (suspect_is v b x))
 
 -- where no name is passed, all is right before the first directory
-clear_right : (v : Layout) (b : List ℕ) (old w : Workspace) → HoldsClaims v b old → IsFor v w → IsNonePassed old w →
+clear_right : (v : Layout) (b : List ℕ) (old w : Workspace) → HoldsBlockCheck v b old → IsFor v w → IsNonePassed old w →
     ((x : ℕ) → bool_at old.flags.items x ≡ true → IsSilentDirectory (volume_of v b) x) →
     RemembersBefore (volume_of v b) 2 (passed_of w)
 unfolding volume_of volume_with
 clear_right v b old w k m c silent = grind (arith, suspect_shown, some_below-none, stamps_length)
 
 pub before_first : (v : Layout) (contents : Option (List ℕ)) (b : List ℕ) (old w : Workspace) → contents ≡ Some b →
-    HoldsClaims v b old → HoldsSurvey v b old → IsFor v w → IsNonePassed old w →
+    HoldsBlockCheck v b old → HoldsSurvey v b old → IsFor v w → IsNonePassed old w →
     ((x : ℕ) → bool_at old.flags.items x ≡ true → IsSilentDirectory (volume_of v b) x) → IsBefore v contents w 2 b
 before_first v contents b old w t h s m c silent = grind (arith, claims_left, survey_left, clear_right)
 
@@ -124,7 +124,7 @@ root_by v Dir k m d a s = grind (arith, nat_tests)
 root_by v c k m d a s = grind (arith, nat_tests)
 
 pub root_is : (v : Layout) (b : List ℕ) (w : Workspace) (k : ℕ) (m : Bool) → k ≡ slice_index w.kinds.items 2 →
-    m ≡ bool_at w.marked.items 2 → HoldsClaims v b w →
+    m ≡ bool_at w.marked.items 2 → HoldsBlockCheck v b w →
     root_reported k m ≡ root_lines (volume_of v b)
 unfolding root_lines volume_of volume_with
 root_is v b w k m e f h = let t = reports_at v b 2 in grind (arith, root_by, suspect_is)
@@ -138,7 +138,8 @@ pub root_marked_is : (v : Layout) (w : Workspace) (m : Bool) → IsAcceptedLayou
     m ≡ get_or w.marked.items 2 m → m ≡ bool_at w.marked.items 2
 root_marked_is v w m g made e = e ∙ get_or_default w.marked.items 2 m false (omega (arith, some_inodes v g))
 
-pub goes_is : (v : Layout) (b : List ℕ) (w : Workspace) (k : ℕ) → k ≡ slice_index w.kinds.items 2 → HoldsClaims v b w →
+pub goes_is : (v : Layout) (b : List ℕ) (w : Workspace) (k : ℕ) → k ≡ slice_index w.kinds.items 2 →
+    HoldsBlockCheck v b w →
     is_dir_kind k ≡ continues_after_root (volume_of v b)
 unfolding volume_of volume_with
 goes_is v b w k e h = ap is_dir_kind (e ∙ h.kinds 2) ∙ sym (reports_at v b 2).dir
@@ -153,7 +154,7 @@ unfolding volume_of volume_with
 lines_begin v b = all_from_root (directory_lines (volume_of v b)) (inodes_of v) refl refl
 
 pub tree_is : (v : Layout) (b : List ℕ) (w : Workspace) (k : ℕ) (m goes : Bool) → k ≡ slice_index w.kinds.items 2 →
-    m ≡ bool_at w.marked.items 2 → HoldsClaims v b w → goes ≡ is_dir_kind k →
+    m ≡ bool_at w.marked.items 2 → HoldsBlockCheck v b w → goes ≡ is_dir_kind k →
     map of_tree (pathname_lines (volume_of v b)) ≡ map of_tree (root_reported k m) ++ map of_tree (tree_lines v b goes)
 unfolding pathname_lines
 tree_is v b w k m goes e f h q = grind (arith, root_is, goes_is, lines_begin, map-append)

@@ -6,7 +6,7 @@ use Rattle.ffs_volume.specs.{declared.Layout.Layout, Encodings.Lists.bool_at, Di
 use Rattle.ffs_volume.specs.Directories.{Roles.{RoledEntry, Volume}, Volumes.volume_of}
 use Rattle.ffs_volume.{proofs.SearchLaws.some_below-from, specs.Costs.Calm.is_calm_directory}
 use Rattle.ffs_volume.specs.Costs.DirectoryReads.{directory_cost, sweep_costs, is_looked_at, places_cost, costs_below}
-use Rattle.ffs_workspace.specs.{declared.workspace.Workspace.Workspace, Holds.HoldsClaims, Leaves.LeavesBlockCheck}
+use Rattle.ffs_workspace.specs.{declared.workspace.Workspace.Workspace, Holds.HoldsBlockCheck, Leaves.LeavesBlockCheck}
 use Rattle.ffs_names.specs.CalmDirs.{FlagsEachCalm}
 use Rattle.ffs_pathnames.specs.{Before.{IsNonePassed, needs_check}, ChecksNeeded.{ChecksLookedAt, KeepsFlags}}
 use Rattle.ffs_pathnames.specs.PassedNames.{PassedNames, after_entries, after_name, after_roled, is_flagged}
@@ -20,7 +20,7 @@ not_needed : (k : ℕ) (sized marked calm flag old : Bool) → sized ≡ (k == 4
 not_needed k sized marked calm flag old s c f h = grind (arith, nat_tests)
 
 -- before the first directory
-pub looked_at_first : (v : Layout) (b : List ℕ) (old w : Workspace) → HoldsClaims v b old → FlagsEachCalm v b old →
+pub looked_at_first : (v : Layout) (b : List ℕ) (old w : Workspace) → HoldsBlockCheck v b old → FlagsEachCalm v b old →
     IsNonePassed old w → ChecksLookedAt v b w
 looked_at_first v b old w claims flags none d h =
     let kinds : slice_index w.kinds.items d ≡ slice_index old.kinds.items d = rw none.survey.findings.block_check.kinds refl in

@@ -8,7 +8,7 @@ use Rattle.ffs_volume.{proofs.CutLaws.replay_at, specs.Directories.{Entries.{Chu
 use Rattle.ffs_volume.specs.Directories.{Roles.roled_entries, Volumes.{volume_of, volume_with, is_inode_number}}
 use Rattle.ffs_volume.specs.{Directories.Volumes.chunk_source_of, Encodings.Replay.{cut_at, fresh_replay}}
 use Rattle.ffs_volume.specs.Encodings.{Replay.replayed_steps, Notes.cut_in}
-use Rattle.ffs_workspace.specs.{declared.workspace.Workspace.Workspace, Holds.{HoldsClaims, HoldsSurvey}}
+use Rattle.ffs_workspace.specs.{declared.workspace.Workspace.Workspace, Holds.{HoldsBlockCheck, HoldsSurvey}}
 use Rattle.ffs_workspace.proofs.{KindLaws.{reports_at, dir_is, suspect_is, type_is, class_is}, NoteLaws.cut_is_noted}
 use Rattle.ffs_names.specs.Readings.{chunks_in}
 use Rattle.ffs_pathnames.specs.{declared.inodes.Inodes.Inodes, Sees.Sees}
@@ -34,7 +34,8 @@ pub record Shows (v : Layout) (w : Workspace) (i : Inodes) : Type 0 where
   pub parents : i.parents.now ≡ w.parents
   pub count : length i.kinds.now ≡ inodes_of v
 
-pub sees : (v : Layout) (b : List ℕ) (w : Workspace) (i : Inodes) → Shows v w i → HoldsClaims v b w → HoldsSurvey v b w
+pub sees : (v : Layout) (b : List ℕ) (w : Workspace) (i : Inodes) → Shows v w i → HoldsBlockCheck v b w
+    → HoldsSurvey v b w
     → Sees (volume_of v b) i
 unfolding volume_of volume_with
 sees v b w i s h r =
@@ -48,7 +49,7 @@ chunks_read v i cut b = chunks_in v b i cut
 
 -- the cut that is noted
 pub cut_here : {v : Layout} {w : Workspace} {cut : ℕ} {b : List ℕ} (x : ℕ) → IsAcceptedLayout v →
-    cut ≡ cut_in (slice_index w.notes.items x) → HoldsClaims v b w → cut ≡ cut_at v b x
+    cut ≡ cut_in (slice_index w.notes.items x) → HoldsBlockCheck v b w → cut ≡ cut_at v b x
 cut_here {v = v} {b = b} x sound is h = is ∙ (ap cut_in (h.notes x) ∙ cut_is_noted v b x sound)
 
 pub chunks_are : (v : Layout) (b : List ℕ) (d : ℕ) {i : Inode} {cut : ℕ} → IsAcceptedLayout v →

@@ -23,7 +23,7 @@ use Rattle.ffs_volume.specs.Encodings.{Kinds.is_dir_at, Replay.{cut_at, fresh_re
 use Rattle.ffs_volume.specs.Costs.Calm.{is_right_size, is_right_shape, are_calm, CurrentDir, is_calm_kind}
 use Rattle.ffs_volume.specs.Costs.Calm.{is_calm_plain, is_calm_role, is_calm_entry, reached_after}
 use Rattle.ffs_names.{specs.{RunCursors.reading_by, Surveys.FlagsOnlyCalm}, proofs.DirLaws.kind_dirs}
-use Rattle.ffs_workspace.specs.{declared.workspace.Workspace.Workspace, Lengths.IsFor, Holds.{bool_at, HoldsClaims}}
+use Rattle.ffs_workspace.specs.{declared.workspace.Workspace.Workspace, Lengths.IsFor, Holds.{bool_at, HoldsBlockCheck}}
 use Rattle.ffs_workspace.{specs.Holds.HoldsSurvey, proofs.KindLaws.{reports_at, suspect_is, type_is}}
 use Rattle.ffs_survey.{specs.{Survey.number_at, Calm.{dir_by, IsCalm}}, proofs.CalmLaws.{calm_names_new, calm_new}}
 use Rattle.ffs_pathnames.{specs.Silent.IsSilentDirectory, proofs.SeesLaws.{chunks_are, chunks_read, settled}}
@@ -41,7 +41,7 @@ record Shown (vol : Volume) (kinds : List ℕ) (marked : List Bool) (parents : L
       → type_of_kind (slice_index kinds x) ≡ (vol.inode x).mode / 4096
   parent_is : (x : ℕ) → slice_index parents x ≡ unwrap_or (parent (graph_of vol) x) 0
 
-shown : (v : Layout) (b : List ℕ) (w : Workspace) → IsFor v w → HoldsClaims v b w → HoldsSurvey v b w →
+shown : (v : Layout) (b : List ℕ) (w : Workspace) → IsFor v w → HoldsBlockCheck v b w → HoldsSurvey v b w →
     Shown (volume_of v b) w.kinds.items w.marked.items w.parents.items
 unfolding volume_of volume_with
 shown v b w m h r = let reports = reports_at v b in grind (arith, kind_dirs, suspect_is, type_is, settled)
@@ -295,7 +295,7 @@ by_chunks : (vol : Volume) (d : ℕ) (s : CurrentDir) (r : ℕ → Bool) → are
 unfolding roled_entries
 by_chunks vol d s r h = h
 
-pub calm_silent : (v : Layout) (b : List ℕ) (w : Workspace) → IsAcceptedLayout v → IsFor v w → HoldsClaims v b w →
+pub calm_silent : (v : Layout) (b : List ℕ) (w : Workspace) → IsAcceptedLayout v → IsFor v w → HoldsBlockCheck v b w →
     HoldsSurvey v b w → FlagsOnlyCalm v b w → (d : ℕ) → bool_at w.flags.items d ≡ true → IsSilentDirectory (volume_of v b) d
 calm_silent v b w g m h r f d set =
     let sh = shown v b w m h r in

@@ -8,7 +8,7 @@ use Rattle.ffs_volume.specs.Encodings.Kinds.{is_dir_kind, is_empty_dir_kind}
 use Rattle.ffs_volume.specs.declared.tree_lines.DirectoryLine.TheVariants.{RootNone, RootNotDir, RootSuspect}
 use Rattle.ffs_workspace.specs.{declared.workspace.Workspace.Workspace, Leaves.LeavesSurvey}
 use Rattle.ffs_volume.specs.Encodings.Places.{AreNoted}
-use Rattle.ffs_workspace.specs.{Holds.{bool_at, HoldsClaims, HoldsSurvey}, Ready.{CanRead, IsReady}}
+use Rattle.ffs_workspace.specs.{Holds.{bool_at, HoldsBlockCheck, HoldsSurvey}, Ready.{CanRead, IsReady}}
 use Rattle.ffs_pathnames.specs.{Gathers.{HasInodeLists, passed_of}, PassedRight.RemembersBefore}
 use Rattle.ffs_survey.specs.Survey.{suspect_at}
 
@@ -25,7 +25,7 @@ pub record IsNonePassed (old new : Workspace) : Type 0 where
 -- what it remembers of the names that were passed before `dir` is right
 pub record IsBefore (v : Layout) (contents : Option (List ℕ)) (w : Workspace) (dir : ℕ) (b : List ℕ) : Type 0 where
   pub gives_bytes : contents ≡ Some b
-  pub claims : HoldsClaims v b w
+  pub claims : HoldsBlockCheck v b w
   pub survey : HoldsSurvey v b w
   pub passed : RemembersBefore (volume_of v b) dir (passed_of w)
 

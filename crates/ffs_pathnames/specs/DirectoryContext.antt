@@ -4,7 +4,7 @@ use Rattle.ffs_image.specs.Device.{Device}
 use Rattle.ffs_image.specs.Known.{ForBytes, IsContents}
 use Rattle.ffs_volume.specs.{declared.Layout.Layout, Blocks.Inodes.inode_of, Directories.Graph.Graph}
 use Rattle.ffs_volume.specs.{Directories.{Parents.graph_of, Roles.is_dir, Volumes.volume_of}, Encodings.Places.AreNoted}
-use Rattle.ffs_workspace.specs.{declared.workspace.Workspace.Workspace, Holds.{HoldsClaims, HoldsSurvey}}
+use Rattle.ffs_workspace.specs.{declared.workspace.Workspace.Workspace, Holds.{HoldsBlockCheck, HoldsSurvey}}
 use Rattle.ffs_paths.specs.DirectoryPaths.{IsPathOf}
 use Rattle.ffs_pathnames.specs.declared.look.Directory.{Directory}
 use Rattle.ffs_pathnames.specs.declared.entry_texts.EntryTexts.{EntryTexts}
@@ -14,7 +14,7 @@ use Rattle.ffs_pathnames.specs.declared.entry_texts.EntryTexts.{EntryTexts}
 pub record DirectoryContext (v : Layout) (contents : Option (List ℕ)) (w : Workspace) (x : ℕ) (b : List ℕ) :
     Type 0 where
   pub gives_bytes : IsContents contents b
-  pub claims : HoldsClaims v b w
+  pub claims : HoldsBlockCheck v b w
   pub survey : HoldsSurvey v b w
   pub noted : AreNoted v b w.queue.items
   pub dir : is_dir (volume_of v b) x ≡ true

@@ -9,7 +9,7 @@ use Rattle.ffs_volume.specs.{Report.Reads.sweep_reads, Messages.Kinds.{TreeMessa
 use Rattle.ffs_volume.specs.Costs.DirectoryReads.{directories_cost, directory_cost, directory_runs, looks_cost}
 use Rattle.ffs_volume.specs.{Costs.DirectoryReads.places_cost, Encodings.Places.AreNoted}
 use Rattle.ffs_paths.specs.declared.kept_parent.KeptParent.{KeptParent}
-use Rattle.ffs_workspace.specs.{Holds.{HoldsClaims, HoldsSurvey}, Leaves.LeavesFindings, Ready.CanRead}
+use Rattle.ffs_workspace.specs.{Holds.{HoldsBlockCheck, HoldsSurvey}, Leaves.LeavesFindings, Ready.CanRead}
 use Rattle.ffs_pathnames.specs.{ChecksNeeded.ChecksLookedAt, Before.IsBefore, Gathers.passed_of, LineReads.again_reads}
 use Rattle.ffs_pathnames.specs.{LineReads.ReadsByLines, HeaderValues.{KnowsHeader, facts_lines}}
 use Rattle.ffs_pathnames.specs.{Moments.LinesMoment, PassedNames.{are_quiet, directory_reported}, Ready.LinesLeave}
@@ -60,7 +60,7 @@ pub record ReportsTree {T : Type 0} (v : Layout) (lines : Volume → List TreeMe
   pub paid : Paid line_reads old.said new.said (old.at.reads + 3 * sweep_reads v) new.at.reads result
   pub image : ImageAfter old.at.image new.at.image result
   pub holds : OnOk result (ForBytes (IsBefore v old.at.image.contents old.at.workspace 2)
-      (λ b. HoldsClaims v b new.at.workspace × HoldsSurvey v b new.at.workspace))
+      (λ b. HoldsBlockCheck v b new.at.workspace × HoldsSurvey v b new.at.workspace))
   pub findings : LeavesFindings old.at.workspace new.at.workspace
   pub ready : CanRead v new.at.image new.at.workspace
 

@@ -18,7 +18,8 @@ use Rattle.ffs_pathnames.specs.{DirectoryContext.{DirectoryContext, KeepsPath, K
 use Rattle.ffs_pathnames.specs.declared.{gather.DirectoryEntry.DirectoryEntry, entry_texts.EntryTexts.EntryTexts}
 use Rattle.ffs_pathnames.specs.{PassedNames.{PassedNames, roled_reported, verdict_at_reading}, Stamps.stamps_of}
 use Rattle.ffs_pathnames.specs.LineReads.{ReadsPathOnce}
-use Rattle.ffs_workspace.specs.{declared.workspace.Workspace.Workspace, Holds.{HoldsClaims, HoldsSurvey}, Lengths.IsFor}
+use Rattle.ffs_workspace.specs.{declared.workspace.Workspace.Workspace, Lengths.IsFor}
+use Rattle.ffs_workspace.specs.Holds.{HoldsBlockCheck, HoldsSurvey}
 
 -- the messages are the same as with the volume's own attributes and paths
 abbrev pub IsEnough : Volume → Verdict → (dir number : ℕ) → List ℕ → Attr → (path directory : List ℕ) → Type 0
@@ -74,7 +75,7 @@ verdict_reads verdict = if_wanted (asks_path verdict) path_reads + if_wanted (as
 -- Where it asks for attributes, the inode is there
 pub record IsVerdictIn (w : Workspace) (dir : ℕ) (e : Entry) (answer : Verdict) : Type 0 where
   pub below : IsTrue (asks_attr answer) → e.number < vec_len w.kinds
-  pub verdict : (v : Layout) (b : List ℕ) → IsFor v w → HoldsClaims v b w → HoldsSurvey v b w
+  pub verdict : (v : Layout) (b : List ℕ) → IsFor v w → HoldsBlockCheck v b w → HoldsSurvey v b w
       → answer ≡ verdict_at_reading (volume_of v b) dir (passed_of w) e
 
 -- the lists that say something of each inode are as long as one another

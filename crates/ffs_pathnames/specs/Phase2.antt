@@ -10,7 +10,7 @@ use Rattle.ffs_report.specs.{Progress.{Progress, Said}, declared.fault.RunFault.
 use Rattle.ffs_image.specs.Known.{ForBytes}
 use Rattle.ffs_report.specs.declared.fault.RunFault.TheVariants.{Read, Out}
 use Rattle.ffs_workspace.specs.{declared.workspace.Workspace.Workspace, Found.WithClaims}
-use Rattle.ffs_workspace.specs.Holds.{HoldsClaims, HoldsFindings}
+use Rattle.ffs_workspace.specs.Holds.{HoldsBlockCheck, HoldsFindings}
 use Rattle.ffs_pathnames.specs.{RootAnswers.SaidStop, declared.pass2.Root.{Root, TheVariants.{Go, Stop}}}
 
 -- what phase 2 leaves, by its answer.
@@ -28,7 +28,7 @@ Phase2Ends v d w w' old new (Ok Stop) = ForBytes (WithClaims v d w) (λ bytes.
     × SaidStop (WithClaims v d w) (phase2 ∷ []) (phase2_messages v) old new
 Phase2Ends v d w w' old new (Err (Read fault)) = Said old new (phase2 ∷ [])
     ⊎ ForBytes (WithClaims v d w) (λ bytes. continues_after_root (volume_of v bytes) ≡ true)
-Phase2Ends v d w w' old new (Err (Out fault)) = ForBytes (WithClaims v d w) (λ bytes. HoldsClaims v bytes w')
+Phase2Ends v d w w' old new (Err (Out fault)) = ForBytes (WithClaims v d w) (λ bytes. HoldsBlockCheck v bytes w')
 
 -- An image that gives its bytes is read at most `pathname_reads` times. What a volume holds counts, too: its
 -- directories are read for the survey, for the places of parent entries, and twice for the messages. Where the

@@ -7,7 +7,7 @@ ghost use Rattle.ffs_report.specs.Progress.{progress};
 ghost use Rattle.ffs_volume.specs.Directories.{PathnameCheck.pathname_lines, Volumes.volume_of};
 ghost use Rattle.ffs_volume.specs.{Encodings.Kinds.is_dir_kind, Messages.Kinds.of_tree, Report.Reads.{line_reads, sweep_reads}};
 ghost use Rattle.ffs_volume.specs.Report.Whole.{phase2_messages};
-ghost use Rattle.ffs_workspace.specs.{Found.WithClaims, Holds.{HoldsClaims, bool_at}, Leaves.LeavesBlockCheck, Ready.{CanRead, IsReady}};
+ghost use Rattle.ffs_workspace.specs.{Found.WithClaims, Holds.{HoldsBlockCheck, bool_at}, Leaves.LeavesBlockCheck, Ready.{CanRead, IsReady}};
 ghost use Rattle.ffs_pathnames.specs.{Before.{root_reported, IsBefore, IsNonePassed}, Gathers.HasInodeLists};
 ghost use Rattle.ffs_pathnames.specs.{Phase2.{Phase2Ends, Phase2Reads}, RootAnswers.{AnswersRoot, SaidStop, is_go}};
 ghost use Rattle.ffs_pathnames.specs.{DirectoryLines.ReportsTree, Moments.lines_moment, SaysTreeMessages.SaysTreeMessages};
@@ -91,7 +91,7 @@ pub fn phase2<I: Image, W: Output>(
     // Where a read or a write failed, and the survey is made, what is to be held is held still.
     ensures again { OnErr result (workspace.new.surveyed ≡ true → ForBytes
         (WithClaims geometry.now.layout (I.device image.old) workspace.old)
-        (λ bytes. HoldsClaims geometry.now.layout bytes workspace.new)) }
+        (λ bytes. HoldsBlockCheck geometry.now.layout bytes workspace.new)) }
     ensures ready { IsReady geometry.now.layout (I.device image.new) workspace.new }
 {
     report.say(&Line::Heading(Heading::Phase2))?;

@@ -5,7 +5,8 @@ use Rattle.ffs_workspace.specs.Moments.{WorkMoment, work_moment}
 use Rattle.ffs_image.specs.{Device.Device, declared.image.{Image.Ghosts, ImageFault.ImageFault}}
 use Rattle.ffs_volume.specs.{declared.Layout.Layout, Directories.{Graph.Graph, Parents.graph_of, Paths.path_names}}
 use Rattle.ffs_volume.specs.{Directories.Volumes.volume_of, Report.Reads.path_reads, Encodings.Places.part_in}
-use Rattle.ffs_workspace.specs.{declared.workspace.Workspace.Workspace, Ready.CanRead, Holds.{HoldsClaims, HoldsSurvey}}
+use Rattle.ffs_workspace.specs.{declared.workspace.Workspace.Workspace, Ready.CanRead}
+use Rattle.ffs_workspace.specs.Holds.{HoldsBlockCheck, HoldsSurvey}
 use Rattle.ffs_paths.specs.{Climbing.IsParentOf, DirectoryPaths.IsPathOf, Reads.{HoldsPlaceOf, KnowsPlaces, names_to}}
 use Rattle.ffs_paths.specs.{Reads.{OnlyReads, ReadsAtMost, ReadsNames}, Slashes.HaveNoSlash}
 use Rattle.ffs_paths.specs.{NameTexts.name_bytes, declared.kept_parent.KeptParent.KeptParent}
@@ -26,7 +27,7 @@ pub record IsKeptParent (g : Graph) (s : KeptParent) : Type 0 where
 -- that is right in the volume, where the image gives its bytes and the workspace holds what the
 -- block check and the survey leave
 pub record HoldsKeptParent (v : Layout) (contents : Option (List ℕ)) (w : Workspace) (s : KeptParent) : Type 0 where
-  pub right : (b : List ℕ) → contents ≡ Some b → HoldsClaims v b w → HoldsSurvey v b w
+  pub right : (b : List ℕ) → contents ≡ Some b → HoldsBlockCheck v b w → HoldsSurvey v b w
       → IsKeptParent (graph_of (volume_of v b)) s
 
 -- the same places are noted

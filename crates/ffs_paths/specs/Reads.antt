@@ -9,7 +9,7 @@ use Rattle.ffs_workspace.specs.declared.workspace.Workspace.{Workspace}
 use Rattle.ffs_volume.specs.Encodings.Places.{AreNoted, IsNoted, part_size, part_in}
 use Rattle.ffs_volume.specs.Costs.DirectoryReads.{directory_cost}
 use Rattle.ffs_workspace.specs.{Found.WithSurvey, Moments.WorkMoment, Ready.CanRead}
-use Rattle.ffs_workspace.specs.Holds.{bool_at, HoldsClaims, HoldsSurvey}
+use Rattle.ffs_workspace.specs.Holds.{bool_at, HoldsBlockCheck, HoldsSurvey}
 
 -- the inode x can be read: the windows hold what the image gives, and its number is one of the volume
 pub record CanReadFor (v : Layout) (d : Device) (w : Workspace) (x : ℕ) : Type 0 where
@@ -34,7 +34,7 @@ pub record OnlyReads {T : Type 0} (v : Layout) (old new : Device) (before after 
 -- P holds of the graph of the volume's directories, where the image gives its bytes, and the
 -- workspace holds what the block check and the survey leave
 abbrev pub ForTree : Layout → Device → Workspace → (Graph → Type 0) → Type 0
-ForTree v d w P = (b : List ℕ) → d.contents ≡ Some b → HoldsClaims v b w → HoldsSurvey v b w
+ForTree v d w P = (b : List ℕ) → d.contents ≡ Some b → HoldsBlockCheck v b w → HoldsSurvey v b w
     → P (graph_of (volume_of v b))
 
 -- so many reads were made at most, and none into the window of indirect blocks
@@ -87,7 +87,7 @@ pub record ReadsName {T : Type 0} (v : Layout) (dir : ℕ) (old new : WorkMoment
 -- it notes the place of each directory that is reached
 pub record KnowsPlaces (v : Layout) (contents : Option (List ℕ)) (w : Workspace) (b : List ℕ) : Type 0 where
   pub gives_bytes : IsContents contents b
-  pub claims : HoldsClaims v b w
+  pub claims : HoldsBlockCheck v b w
   pub survey : HoldsSurvey v b w
   pub noted : AreNoted v b w.queue.items
 

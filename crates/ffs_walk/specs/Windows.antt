@@ -30,7 +30,8 @@ pub record WindowHolds (contents : Option (List ℕ)) (w : Window) : Type 0 wher
   pub fits : w.length ≤ vec_len w.buffer
   pub bytes : ForContents contents (λ b. held_bytes w ≡ piece w.place w.length b)
 
--- the bytes in the part of the buffer that is for a level of indirection
+-- the bytes in the part of the buffer that is for the indirect blocks of a level: 0 for those with addresses of data,
+-- that is the level of the addresses in them (`Blocks/Steps`)
 abbrev pub level_bytes : Layout → ℕ → Blocks → List ℕ
 level_bytes v level blocks = piece (level * v.bsize) v.bsize blocks.buffer.items
 

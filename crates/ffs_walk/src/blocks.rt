@@ -8,6 +8,8 @@ use ffs_layout::Geometry;
 use ffs_memory::FixedList;
 
 /// The indirect blocks that a walk is in, one of each level, in one buffer. They are of one image.
+/// A block has the level that `Blocks/Steps` gives the addresses in it; its own address is one
+/// level higher there.
 #[derive(Drop)]
 pub struct Blocks {
     /// The bytes of three blocks, one for each level: that of level 0 has addresses of data blocks,

@@ -1,7 +1,8 @@
 -- What a workspace holds is held by one with the same findings.
 use Rattle.std.{proofs.{Common.{arith, ◌≡◌, ℕ, List, false, true}, lemmas.Bool.both_ways}, specs.Prelude.slice_index}
 use Rattle.ffs_volume.specs.{declared.Layout.Layout, Encodings.Links.start_at}
-use Rattle.ffs_workspace.specs.{declared.workspace.Workspace.Workspace, Holds.{HoldsClaims, HoldsCounts, HoldsFindings}}
+use Rattle.ffs_workspace.specs.{declared.workspace.Workspace.Workspace}
+use Rattle.ffs_workspace.specs.Holds.{HoldsBlockCheck, HoldsCounts, HoldsFindings}
 use Rattle.ffs_workspace.specs.Holds.{HoldsReferences, HoldsSurvey, HoldsTree, IsFresh}
 use Rattle.ffs_workspace.specs.Leaves.{LeavesBlockCheck, LeavesFindings, LeavesSurvey}
 
@@ -68,12 +69,12 @@ counts_same v b old new references surveyed named reached parents h = (
 )
 
 pub findings_claims : (v : Layout) (b : List ℕ) (old new : Workspace) → LeavesFindings old new →
-    HoldsClaims v b old → HoldsClaims v b new
+    HoldsBlockCheck v b old → HoldsBlockCheck v b new
 findings_claims v b old new s h =
     let counts = counts_same v b old new s.references s.surveyed s.named s.reached s.parents h.counts in grind arith
 
-pub claims_left : (v : Layout) (b : List ℕ) (old new : Workspace) → LeavesSurvey old new → HoldsClaims v b old →
-    HoldsClaims v b new
+pub claims_left : (v : Layout) (b : List ℕ) (old new : Workspace) → LeavesSurvey old new → HoldsBlockCheck v b old →
+    HoldsBlockCheck v b new
 claims_left v b old new s h = findings_claims v b old new s.findings h
 
 pub survey_left : (v : Layout) (b : List ℕ) (old new : Workspace) → LeavesSurvey old new → HoldsSurvey v b old →
@@ -91,7 +92,7 @@ pub fresh_held : (v : Layout) (old new : Workspace) → new ≡ record old { win
 fresh_held v old new e h = grind arith
 
 pub claims_held : (v : Layout) (b : List ℕ) (old new : Workspace) → new ≡ record old { windows = new.windows } →
-    HoldsClaims v b old → HoldsClaims v b new
+    HoldsBlockCheck v b old → HoldsBlockCheck v b new
 claims_held v b old new e h = claims_left v b old new (windows_leave old new e) h
 
 pub survey_held : (v : Layout) (b : List ℕ) (old new : Workspace) → new ≡ record old { windows = new.windows } →

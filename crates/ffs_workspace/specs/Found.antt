@@ -4,7 +4,7 @@ use Rattle.std.specs.Prelude.{ℕ, List}
 use Rattle.ffs_image.specs.{Device.Device, Known.IsContents}
 use Rattle.ffs_volume.specs.declared.Layout.{Layout}
 use Rattle.ffs_workspace.specs.declared.workspace.Workspace.{Workspace}
-use Rattle.ffs_workspace.specs.Holds.{IsFresh, HoldsPhase1, HoldsClaims, HoldsFindings, HoldsSurvey}
+use Rattle.ffs_workspace.specs.Holds.{IsFresh, HoldsPhase1, HoldsBlockCheck, HoldsFindings, HoldsSurvey}
 
 -- the image gives the bytes, and the workspace holds nothing yet
 abbrev pub WithFresh : Layout → Device → Workspace → List ℕ → Type 0
@@ -16,11 +16,11 @@ WithPhase1 v d w bytes = IsContents d.contents bytes × HoldsPhase1 v bytes w
 
 -- it holds what the block check found
 abbrev pub WithClaims : Layout → Device → Workspace → List ℕ → Type 0
-WithClaims v d w bytes = IsContents d.contents bytes × HoldsClaims v bytes w
+WithClaims v d w bytes = IsContents d.contents bytes × HoldsBlockCheck v bytes w
 
 -- it holds what the block check and the survey found
 abbrev pub WithSurvey : Layout → Device → Workspace → List ℕ → Type 0
-WithSurvey v d w bytes = IsContents d.contents bytes × HoldsClaims v bytes w × HoldsSurvey v bytes w
+WithSurvey v d w bytes = IsContents d.contents bytes × HoldsBlockCheck v bytes w × HoldsSurvey v bytes w
 
 -- it holds what the check of reference counts goes by
 abbrev pub WithFindings : Layout → Device → Workspace → List ℕ → Type 0

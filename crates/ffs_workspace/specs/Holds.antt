@@ -68,7 +68,7 @@ HoldsCounts v image w = (w.surveyed ≡ false → (x : ℕ) → slice_index w.re
 -- what phases 1 and 1b leave, and all phases after them keep: the fragments that are reserved or
 -- claimed, and for each inode its kind, whether it is marked, what is noted of it, and how often it is
 -- referred to, as far as that is counted
-pub record HoldsClaims (v : Layout) (image : List ℕ) (w : Workspace) : Type 0 where
+pub record HoldsBlockCheck (v : Layout) (image : List ℕ) (w : Workspace) : Type 0 where
   pub used : bits_of w.used ≡ (all_claims v image).used
   pub kinds : (x : ℕ) → slice_index w.kinds.items x ≡ kind_at v image x
   pub marked : (x : ℕ) → bool_at w.marked.items x ≡ marked_at v image x
@@ -77,6 +77,6 @@ pub record HoldsClaims (v : Layout) (image : List ℕ) (w : Workspace) : Type 0 
 
 -- what the block check and the survey leave, with the counts of references
 pub record HoldsFindings (v : Layout) (image : List ℕ) (w : Workspace) : Type 0 where
-  pub claims : HoldsClaims v image w
+  pub claims : HoldsBlockCheck v image w
   pub survey : HoldsSurvey v image w
   pub references : HoldsReferences v image w

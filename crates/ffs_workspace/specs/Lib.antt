@@ -3,8 +3,9 @@
 -- Its form: `Tables` is about the window on the inode table, `Lengths` about the lengths of all lists (IsFor) and what
 -- the windows hold.
 --
--- What it holds: `Holds` has what each phase leaves in it for the next ones: HoldsPhase1, HoldsClaims (phase 1b and all
--- after it), HoldsSurvey and HoldsReferences (the survey), HoldsFindings (all three, which phase 4 needs of phase 2).
+-- What it holds: `Holds` has what each phase leaves in it for the next ones: HoldsPhase1, HoldsBlockCheck (phase 1b and
+-- all after it), HoldsSurvey and HoldsReferences (the survey), HoldsFindings (all three, which phase 4 needs of phase
+-- 2).
 --
 -- What calls need and leave: `Ready` has IsReady, which each phase needs and leaves, and CanRead, which calls within
 -- a phase need and `forget_windows` makes of it: that the windows hold what this image gives. KeepsWindows says that

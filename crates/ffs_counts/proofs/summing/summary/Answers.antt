@@ -3,7 +3,7 @@ use Rattle.std.proofs.lemmas.Result.{err_from_is_err_and}
 use Rattle.ffs_volume.specs.Report.Whole.{file_count, claimed_count}
 use Rattle.ffs_maps.specs.Bits.{bits_of}
 use Rattle.ffs_image.specs.Known.{ForBytes}
-use Rattle.ffs_workspace.specs.Holds.{HoldsClaims}
+use Rattle.ffs_workspace.specs.Holds.{HoldsBlockCheck}
 use Rattle.ffs_counts.specs.Summing.{files_among}
 use Rattle.ffs_counts.proofs.{Classes.files_are, ReservedCount.used_are, summing.summary.Goals.After-summary_line}
 use Rattle.ffs_counts.proofs.summing.summary.Given as given
@@ -16,7 +16,7 @@ files_counted g c = grind arith
 
 -- the counts are those of the image
 files_right : (g : given.Over) (c : After-summary_line g) →
-    ForBytes (λ bytes. HoldsClaims c.args.superblock.now.geometry.layout bytes c.args.workspace.now)
+    ForBytes (λ bytes. HoldsBlockCheck c.args.superblock.now.geometry.layout bytes c.args.workspace.now)
     (λ bytes. c.file_count-files.result ≡ file_count c.args.superblock.now.geometry.layout bytes)
 files_right g c bytes k =
     let kinds = c.deref.result.now in
@@ -25,7 +25,7 @@ files_right g c bytes k =
     (λ x. ap (λ ks. slice_index ks x) c.deref.ensures.value ∙ k.kinds x)
 
 claimed_right : (g : given.Over) (c : After-summary_line g) →
-    ForBytes (λ bytes. HoldsClaims c.args.superblock.now.geometry.layout bytes c.args.workspace.now)
+    ForBytes (λ bytes. HoldsBlockCheck c.args.superblock.now.geometry.layout bytes c.args.workspace.now)
     (λ bytes. c.claimed_count-claimed.result ≡ claimed_count c.args.superblock.now.geometry.layout bytes)
 claimed_right g c bytes k = used_are c.args.superblock.now.geometry.layout bytes (bits_of c.args.workspace.now.used)
     c.claimed_count-claimed.result (c.claimed_count-claimed.ensures c.requires.used) k.used

@@ -1,6 +1,7 @@
 use Rattle.std.proofs.Common.{◌∙◌, ◌≡◌, ◌*◌, ℕ, List, Some, length, ap, subst, sym, rules, arith, slice_index}
 use Rattle.ffs_volume.{proofs.Sizes.some_inodes, specs.{Encodings.Kinds.kind_at}}
-use Rattle.ffs_workspace.{proofs.{Leaving.counts_begin, PlaceLaws.{filled_noted, zero_index}}, specs.Holds.HoldsClaims}
+use Rattle.ffs_workspace.proofs.{Leaving.counts_begin, PlaceLaws.{filled_noted, zero_index}}
+use Rattle.ffs_workspace.specs.Holds.{HoldsBlockCheck}
 use Rattle.ffs_workspace.specs.Tables.{IsTableOf}
 use Rattle.ffs_names.{specs.Readers.{Base, KnowsReader}, proofs.SurveyHolds.{volume_survey, holds_claims, holds_tree}}
 use Rattle.ffs_names.proofs.SurveyHolds.{volume_calm, holds_calm, holds_references, on_ok_is, on_err_is}
@@ -20,10 +21,10 @@ base g c = record {
 }
 
 known : (g : given.Over) (c : After-survey_directories-surveyed g) (b : List ℕ) → (g.I.Image.device c.args.image.now).contents ≡
-    Some b → HoldsClaims c.args.geometry.now.layout b c.args.workspace.now → KnowsReader (base g c) b
+    Some b → HoldsBlockCheck c.args.geometry.now.layout b c.args.workspace.now → KnowsReader (base g c) b
 known g c b t h = grind arith
 
-kinds : (g : given.Over) (c : After-survey_directories-surveyed g) (b : List ℕ) → HoldsClaims c.args.geometry.now.layout b
+kinds : (g : given.Over) (c : After-survey_directories-surveyed g) (b : List ℕ) → HoldsBlockCheck c.args.geometry.now.layout b
     c.args.workspace.now → (x : ℕ) → slice_index c.deref-2.result.now x ≡ kind_at c.args.geometry.now.layout b x
 kinds g c b h x = ap (λ ks. slice_index ks x) c.deref-2.ensures.value ∙ h.kinds x
 

@@ -3,7 +3,7 @@ use Rattle.std.{proofs.lemmas.Result.err_from_is_err_and, specs.List.{flat_map, 
 use Rattle.ffs_image.specs.Device.{Faulted}
 use Rattle.ffs_volume.specs.{Blocks.Inodes.inode_of, Directories.{Entries.{Chunk, chunk_of}, Roles.roled_chunk}}
 use Rattle.ffs_volume.specs.Directories.{PathnameCheck.are_sound, Volumes.volume_of}
-use Rattle.ffs_workspace.specs.Holds.{HoldsClaims, HoldsSurvey}
+use Rattle.ffs_workspace.specs.Holds.{HoldsBlockCheck, HoldsSurvey}
 use Rattle.ffs_names.{specs.Readings.{rest, gap_left}, proofs.{DirCosts.runs_are, DirLaws.{dir_is, dir_size}}}
 use Rattle.ffs_pathnames.specs.{Gathers.passed_of, PassedNames.{are_quiet, after_looks}, Stamps.stamps_of}
 use Rattle.ffs_pathnames.{specs.StartChunks.start_chunk, proofs.StampLaws.{queue_leaves, words_more}}
@@ -49,7 +49,7 @@ chunks-preserved g c =
     let inv = c.chunks.invariant in
     let old = stamps_of c.args.workspace.now.parents.items c.chunks.words.items in
     let look = c.look_chunk-looked.ensures in
-    let seen = λ (b : List ℕ) (h : HoldsClaims v b w) (r : HoldsSurvey v b w). sees v b w _ (record {
+    let seen = λ (b : List ℕ) (h : HoldsBlockCheck v b w) (r : HoldsSurvey v b w). sees v b w _ (record {
       kinds = c.as_slice.ensures.value;
       marked = refl;
       parents = refl;

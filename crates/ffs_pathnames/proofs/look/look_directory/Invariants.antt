@@ -6,7 +6,7 @@ use Rattle.ffs_volume.specs.Encodings.ReplayCounts.{replayed_runs}
 use Rattle.ffs_names.specs.{Windows.CanReadChunks, Readings.{rest, gap_left}, Costs.{to_read, HoldsReading}}
 use Rattle.ffs_pathnames.specs.{Gathers.passed_of, PassedNames.{are_quiet, after_looks}, Stamps.{KeepsWords, stamps_of}}
 use Rattle.ffs_pathnames.{specs.StartChunks.start_chunk, proofs.SeesLaws.chunks_read}
-use Rattle.ffs_workspace.specs.Holds.{HoldsClaims, HoldsSurvey}
+use Rattle.ffs_workspace.specs.Holds.{HoldsBlockCheck, HoldsSurvey}
 use Rattle.ffs_pathnames.proofs.look.look_directory.Given as goal
 
 abbrev pub invariant-chunks : goal.invariant-chunks
@@ -25,10 +25,10 @@ invariant-chunks g l =
       words : KeepsWords l.initial.words l.words;
       others : l.windows ≡ record l.initial.windows { blocks = l.windows.blocks; current = l.windows.current };
       ready : CanReadChunks v (device l.image) l.windows.blocks l.windows.current;
-      quiet : of_bytes (λ b. HoldsClaims v b w → HoldsSurvey v b w → x.inode.size < 2 ^ 31 →
+      quiet : of_bytes (λ b. HoldsBlockCheck v b w → HoldsSurvey v b w → x.inode.size < 2 ^ 31 →
           are_quiet (volume_of v b) x.number w.flags.items before (flat_map roled_chunk (all b))
           ≡ (l.quiet && are_quiet (volume_of v b) x.number w.flags.items now (flat_map roled_chunk (rest b l.chunks))));
-      stamps : of_bytes (λ b. HoldsClaims v b w → HoldsSurvey v b w → x.inode.size < 2 ^ 31 →
+      stamps : of_bytes (λ b. HoldsBlockCheck v b w → HoldsSurvey v b w → x.inode.size < 2 ^ 31 →
           after_looks (volume_of v b) x.number before (flat_map roled_chunk (all b))
           ≡ after_looks (volume_of v b) x.number now (flat_map roled_chunk (rest b l.chunks)));
       sound : of_bytes (λ b. x.inode.size < 2 ^ 31 → are_sound (all b) ≡ (l.sound && are_sound (rest b l.chunks)));

@@ -2,7 +2,7 @@ use Rattle.std.proofs.Common.{◌≡◌, ◌≤◌, ◌++◌, ◌+◌, ◌*◌, 
 use Rattle.std.proofs.Common.{true, false, arith, length, Result, Err, inl, inr, ◌∷◌, ◌==◌}
 use Rattle.std.proofs.lemmas.{Result.err_from_is_err_and, Bool.{both_ways, cases_Bool}}
 use Rattle.ffs_workspace.specs.Moments.{WorkMoment}
-use Rattle.ffs_workspace.specs.{Holds.HoldsClaims, Ready.CanRead, declared.workspace.Workspace.Workspace}
+use Rattle.ffs_workspace.specs.{Holds.HoldsBlockCheck, Ready.CanRead, declared.workspace.Workspace.Workspace}
 use Rattle.ffs_pathnames.proofs.Findings.{findings_kept}
 use Rattle.ffs_pathnames.{specs.Before.{IsBefore, root_reported}, proofs.{LineCounts.lines_long, Carrying.goes_is}}
 use Rattle.ffs_pathnames.proofs.Carrying.{root_kind_is, root_marked_is, tree_is, tree_lines}
@@ -29,7 +29,7 @@ kind_is g c = grind (arith, root_kind_is)
 
 -- the lines, by the root's and by those of the tree
 lines_are : (g : Over) (c : After-report_root g) (b : List ℕ) (goes : Bool) →
-    HoldsClaims c.args.geometry.now.layout b c.args.workspace.now → goes ≡ is_dir_kind c.index-kind.result.now →
+    HoldsBlockCheck c.args.geometry.now.layout b c.args.workspace.now → goes ≡ is_dir_kind c.index-kind.result.now →
     map of_tree (pathname_lines (volume_of c.args.geometry.now.layout b))
     ≡ map of_tree (root_reported c.index-kind.result.now c.index-marked.result.now)
     ++ map of_tree (tree_lines c.args.geometry.now.layout b goes)

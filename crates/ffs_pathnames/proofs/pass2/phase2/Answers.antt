@@ -15,7 +15,7 @@ use Rattle.ffs_pathnames.{specs.RootAnswers.{SaidStop, is_go}, proofs.Carrying.{
 use Rattle.ffs_pathnames.proofs.{SilentLaws.calm_silent, pass2.phase2.{Given.Over, Goals.After-check_tree}}
 use Rattle.ffs_pathnames.proofs.ChecksNeededLaws.{looked_at_first}
 use Rattle.ffs_names.{proofs.{DirCosts.noted_all_within, RunSums.costs_bounded}, specs.Surveys.SurveysNoMore}
-use Rattle.ffs_workspace.specs.{declared.workspace.Workspace.Workspace, Found.WithClaims, Holds.HoldsClaims}
+use Rattle.ffs_workspace.specs.{declared.workspace.Workspace.Workspace, Found.WithClaims, Holds.HoldsBlockCheck}
 use Rattle.ffs_workspace.{specs.Holds.{HoldsFindings, HoldsReferences, HoldsSurvey}, proofs.Leaving.block_check_kept}
 use Rattle.ffs_workspace.proofs.Leaving.{block_check_more, claims_left, findings_claims}
 use Rattle.ffs_pathnames.proofs.Findings.{at_error}
@@ -38,7 +38,7 @@ before_tree g c b k =
 -- and what of it is held after the last one
 claims_after : (g : Over) (c : After-check_tree g) (b : List ℕ) →
     WithClaims c.args.geometry.now.layout (g.I.Image.device c.args.image.now) c.args.workspace.now b →
-    HoldsClaims c.args.geometry.now.layout b c.check_tree.new.workspace
+    HoldsBlockCheck c.args.geometry.now.layout b c.check_tree.new.workspace
 claims_after g c b k =
     let v = c.args.geometry.now.layout in
     let cleared = claims_left v b _ _ c.clear_passed.ensures.survey (c.in_ok-survey.ensures.survey b k).claims in
@@ -48,8 +48,8 @@ claims_after g c b k =
 ends_by : (v : Layout) (d d' : Device) (old w new : Workspace) (before after : Progress) (r : Result Root RunFault) →
     ForBytes (WithClaims v d old) (IsBefore v d'.contents w 2) →
     ForBytes (WithClaims v d old) (λ b. HoldsReferences v b new) →
-    ForBytes (WithClaims v d old) (λ b. HoldsClaims v b new) → AnswersRoot v d' w r →
-    OnOk r (ForBytes (IsBefore v d'.contents w 2) (λ b. HoldsClaims v b new × HoldsSurvey v b new)) →
+    ForBytes (WithClaims v d old) (λ b. HoldsBlockCheck v b new) → AnswersRoot v d' w r →
+    OnOk r (ForBytes (IsBefore v d'.contents w 2) (λ b. HoldsBlockCheck v b new × HoldsSurvey v b new)) →
     IfOk r (λ root. is_go root ≡ false → SaidStop (WithClaims v d old) (phase2 ∷ [])
     (λ b. phase2 ∷ map of_tree (pathname_lines (volume_of v b))) before after) → Phase2Ends v d old new before after r
 ends_by v d d' old w new before after (Ok root) more references claims answer holds stop = ends root answer stop

@@ -7,14 +7,14 @@ use Rattle.ffs_volume.specs.{Costs.DirectoryReads.directory_runs, declared.{Inod
 use Rattle.ffs_volume.specs.{Blocks.Inodes.inode_of, Laws.Geometry.IsAcceptedLayout, Directories.Roles.is_dir}
 use Rattle.ffs_volume.specs.{Directories.{Roles.roled_entries, Volumes.volume_of}, Encodings.Notes.cut_in}
 use Rattle.ffs_survey.specs.Reading.{roled_of}
-use Rattle.ffs_workspace.specs.{Holds.HoldsClaims, declared.workspace.Workspace.Workspace}
+use Rattle.ffs_workspace.specs.{Holds.HoldsBlockCheck, declared.workspace.Workspace.Workspace}
 use Rattle.ffs_workspace.proofs.NoteLaws.{cut_is_noted}
 use Rattle.ffs_paths.{specs.Climbing.name_in, proofs.{Keeping.chunk_then, WaysUp.name_in-by}}
 use Rattle.ffs_paths.proofs.name.search_name.Goals as goal
 
 -- all entries of the parent are still to come
 begun : {v : Layout} {b : List ℕ} {w : Workspace} {i : Inode} {cut : ℕ} {r : Entries} (p : ℕ) → IsAcceptedLayout v →
-    HoldsClaims v b w → is_dir (volume_of v b) p ≡ true → i ≡ inode_of v b p →
+    HoldsBlockCheck v b w → is_dir (volume_of v b) p ≡ true → i ≡ inode_of v b p →
     cut ≡ cut_in (slice_index w.notes.items p)
     → BeginsDirectory v i cut r → roled_entries (volume_of v b) p ≡ to_come b r
 begun {v = v} {b = b} {i = i} {cut = cut} p sound claims dir inode noted begins =
@@ -24,7 +24,7 @@ begun {v = v} {b = b} {i = i} {cut = cut} p sound claims dir inode noted begins 
 
 -- and none of its Runs is read yet
 runs_begun : {v : Layout} {b : List ℕ} {w : Workspace} {i : Inode} {cut : ℕ} {r : Entries} (p : ℕ) → IsAcceptedLayout v →
-    HoldsClaims v b w → i ≡ inode_of v b p → cut ≡ cut_in (slice_index w.notes.items p) →
+    HoldsBlockCheck v b w → i ≡ inode_of v b p → cut ≡ cut_in (slice_index w.notes.items p) →
     BeginsDirectory v i cut r → reads_for_entries b r ≤ directory_runs v b p
 runs_begun {v = v} {b = b} {i = i} {cut = cut} p sound claims inode noted begins = grind (arith, cut_is_noted)
 

@@ -1,5 +1,5 @@
 use Rattle.std.proofs.Common.{ℕ, ◌<◌, ◌≤◌, slice_index}
-use Rattle.ffs_groups.proofs.inodes.are_allocated.Given as goal
+use Rattle.ffs_groups.proofs.inodes.all_or_none_allocated.Given as goal
 
 abbrev pub invariant-loop-kind : goal.invariant-loop-kind
 invariant-loop-kind l = record {

@@ -1,7 +1,7 @@
 use Rattle.std.proofs.Common.{arith, ◌-◌}
 use Rattle.ffs_maps.specs.Bits.{bits_of}
 use Rattle.ffs_groups.proofs.Sums.{all_free, none_free}
-use Rattle.ffs_groups.proofs.free.are_free.Goals as goal
+use Rattle.ffs_groups.proofs.free.all_or_none_free.Goals as goal
 
 pub returns-then-count-eq0 : goal.returns-then-count-eq0
 returns-then-count-eq0 c = grind (arith, all_free)
