@@ -12,7 +12,7 @@ use Rattle.ffs_volume.specs.Blocks.KeptOffers.{kept_in_steps, offer_of}
 use Rattle.ffs_volume.specs.{declared.{Layout.Layout, Step.{Step, TheVariants.{Run}}}}
 use Rattle.ffs_volume.proofs.Flags.{unset}
 use Rattle.ffs_maps.specs.Bits.{bits_of}
-use Rattle.ffs_workspace.specs.{Holds.HoldsPhase1, Lengths.has_unreported_dups}
+use Rattle.ffs_workspace.specs.Holds.{HoldsPhase1, has_unreported_dups}
 use Rattle.ffs_workspace.specs.declared.workspace.Workspace.{Workspace}
 use Rattle.ffs_claims.specs.Reporting.{OffersReported}
 

@@ -13,8 +13,7 @@ use Rattle.ffs_volume.specs.Report.{Memory.runs_limit, Reads.{sweep_reads, table
 use Rattle.ffs_volume.specs.{Costs.VolumeReads.{indirect_count, volume_scan_reads}, Report.Whole.run_count}
 use Rattle.ffs_image.specs.Known.{ForBytes, IsContents}
 use Rattle.ffs_workspace.specs.{declared.workspace.Workspace.Workspace, Found.{WithFresh, WithPhase1}}
-use Rattle.ffs_workspace.specs.Lengths.{has_unreported_dups}
-use Rattle.ffs_workspace.specs.Holds.{HoldsBlockCheck, HoldsPhase1, bool_at}
+use Rattle.ffs_workspace.specs.Holds.{HoldsBlockCheck, HoldsPhase1, bool_at, has_unreported_dups}
 use Rattle.ffs_claims.specs.{Leaves.{ClaimsAndFinds, StaySet}, Lines.of_lines, RescanRuns.rescan_end}
 use Rattle.ffs_claims.specs.Reporting.{OffersReported, ReportedInPart}
 

@@ -1,6 +1,8 @@
 -- What a workspace holds between the phases.
-use Rattle.std.specs.{Prelude.{◌≡◌, ◌<◌, ◌+◌, ℕ, false, true, List, replicate, slice_index}, Option.unwrap_or}
-use Rattle.ffs_volume.specs.{declared.Layout.Layout, Blocks.{Inodes.inodes_of, Claims.{Claims, all_claims}}}
+use Rattle.std.specs.Prelude.{◌≡◌, ◌==◌, ◌<◌, ◌+◌, ℕ, Bool, false, not, true, List, replicate, slice_index}
+use Rattle.std.specs.Option.{unwrap_or}
+use Rattle.ffs_volume.specs.Blocks.{BlockCheck.set_count, Claims.{Claims, all_claims}, Inodes.inodes_of}
+use Rattle.ffs_volume.specs.declared.Layout.{Layout}
 use Rattle.ffs_volume.specs.Directories.{Graph.{is_named, reached, parent}, Roles.references, Parents.graph_of}
 use Rattle.ffs_volume.specs.{Directories.Volumes.{marked_at, marked_by_phase1_at, volume_of}, Encodings.Kinds.kind_at}
 use Rattle.ffs_volume.specs.Encodings.{Links.start_at, Places.AreParts, Notes.note_at}
@@ -19,6 +21,10 @@ claims_of w = record {
   kept = w.kept;
   tail = w.tail;
 }
+
+-- some fragment has a DUP line, and its first kept offer isn't reported yet
+abbrev pub has_unreported_dups : Workspace → Bool
+has_unreported_dups w = not (set_count (bits_of w.duplicates) == 0)
 
 -- nothing is claimed, dup, counted, noted or marked yet
 pub record IsFresh (v : Layout) (w : Workspace) : Type 0 where

@@ -1,13 +1,8 @@
 -- The lengths of the lists of a workspace, and what its windows hold.
-use Rattle.std.specs.Prelude.{◌≡◌, ◌*◌, ◌==◌, ℕ, Bool, not, List, Option, vec_len}
-use Rattle.ffs_volume.specs.{declared.Layout.Layout, Blocks.{Inodes.inodes_of, BlockCheck.set_count}}
-use Rattle.ffs_maps.specs.Bits.{bits_of}
+use Rattle.std.specs.Prelude.{◌≡◌, ◌*◌, ℕ, List, Option, vec_len}
+use Rattle.ffs_volume.specs.{declared.Layout.Layout, Blocks.Inodes.inodes_of}
 use Rattle.ffs_walk.specs.Windows.{WindowHolds, BlocksHold}
 use Rattle.ffs_workspace.specs.{declared.workspace.Workspace.Workspace, Tables.TableHolds}
-
--- some fragment has a DUP line, and its first kept offer isn't reported yet
-abbrev pub has_unreported_dups : Workspace → Bool
-has_unreported_dups w = not (set_count (bits_of w.duplicates) == 0)
 
 -- the workspace was made for the volume: all its lists and windows have the lengths that it asks for
 pub record IsFor (v : Layout) (w : Workspace) : Type 0 where

@@ -102,7 +102,7 @@ pub struct Workspace {
 
 impl Workspace {
     ghost use Rattle.ffs_image.specs.Device.{Device};
-    ghost use Rattle.ffs_workspace.specs.Lengths.{IsFor, has_unreported_dups};
+    ghost use Rattle.ffs_workspace.specs.{Lengths.IsFor, Holds.has_unreported_dups};
     ghost use Rattle.ffs_volume.specs.{Encodings.Notes.cut_in, Report.Memory.held_of};
     ghost use Rattle.ffs_workspace.specs.Ready.{CanRead, IsNew, IsReady};
     ghost use Rattle.ffs_memory.specs.System.{AsksOfSystem};
