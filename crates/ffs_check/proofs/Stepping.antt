@@ -17,7 +17,7 @@ use Rattle.ffs_report.specs.{PhaseOutcome.{ImageAfter}, declared.fault.RunFault.
 use Rattle.ffs_report.{specs.declared.fault.RunFault.TheVariants.{Read, Out}, proofs.Reporting.{of_begins, of_says}}
 use Rattle.ffs_report.proofs.{Reporting.{of_part, of_fault, said_knows, reports_knowing}, Paying.paid_answer}
 use Rattle.ffs_report.proofs.Paying.{paid_fault, paid_none, paid_then, paid_within}
-use Rattle.ffs_volume.proofs.Results.{on_any}
+use Rattle.ffs_volume.proofs.Results.{at_error, on_any}
 use Rattle.ffs_check.specs.{PhaseEnds.{HaveRun, AnswersAfterPhases, SaidWhole}}
 use Rattle.ffs_volume.specs.Report.Whole.{phase1_messages, phase1b_messages_if_dups, phase2_messages, phase3_messages, phase4_messages, phase5_messages}
 use Rattle.ffs_volume.specs.Report.Whole.{summary_messages}
@@ -34,7 +34,7 @@ use Rattle.ffs_workspace.specs.Holds.{HoldsBlockCheck, HoldsFindings}
 use Rattle.ffs_workspace.proofs.Leaving.{claims_held, claims_left, references_left, survey_left}
 use Rattle.ffs_check.proofs.Stages.{some_more, more_after, root_or_more, Left, each, Point, Given, Stage, report_at}
 use Rattle.ffs_check.proofs.Stages.{RunsPhases, Spends, Ran, begun, phase1_done, phase1b_done, Rooted, phase2_done}
-use Rattle.ffs_check.proofs.Stages.{phase3_done, phase4_done, phase5_done, root_stays, windows_stay, at_err}
+use Rattle.ffs_check.proofs.Stages.{phase3_done, phase4_done, phase5_done, root_stays, windows_stay}
 use Rattle.ffs_check.proofs.Stages.{with_ok, spends_left, spends_lines, IsClaimed, spends_names}
 use Rattle.ffs_check.proofs.Stages.{spends_knowing, within_both, whole_said}
 
@@ -244,7 +244,7 @@ module _ (s : Superblock) where
         (spends_left _ r ran.text (omega (arith, few.any)) (λ bytes k. omega (arith, few.known bytes k)))
         (λ bytes k. refl)
         (λ bytes k. some_more phase2 _) (rescanned r at again)
-        (at_err r (λ bytes k. inr (again.has_dups ∙ (at.holds bytes k).has_dups))) (rw again.seen at.sure.0)
+        (at_error r (λ bytes k. inr (again.has_dups ∙ (at.holds bytes k).has_dups))) (rw again.seen at.sure.0)
         again.ready
 
     pub phase2_comes : (r : Result Root RunFault) → Stage s d w start reads (phase1b_done s d w u) on report now →
@@ -301,7 +301,7 @@ module _ (s : Superblock) where
         (λ bytes k. rw goes (omega arith)))
         (λ bytes k. ap (λ go. after_phase2 go bytes s) goes) (λ bytes k. some_more phase4 _)
         (on_any r (sure, λ bytes k. grind (arith, claims_left, survey_left, references_left)))
-        (at_err r sure.answers.dups) sure.answers.most ready
+        (at_error r sure.answers.dups) sure.answers.most ready
 
     pub phase4_comes : {T : Type 0} (r : Result T RunFault) {root : Root} →
         Stage s d w start reads (phase3_done s d w u root) on report now →
@@ -317,7 +317,7 @@ module _ (s : Superblock) where
         (spends_lines (group_reads s.layout) (λ bytes. length (reference_lines (volume_of s.layout bytes)))
         (phase3_done s d w u root).left.known (phase4_done s d w u' root).left.known read paid (λ bytes k. omega arith))
         (λ bytes k. refl) (λ bytes k. some_more phase5 _)
-        (on_any r (sure, λ bytes k. claims_held s.layout bytes u u' held k.1.claims)) (at_err r sure.answers.dups)
+        (on_any r (sure, λ bytes k. claims_held s.layout bytes u u' held k.1.claims)) (at_error r sure.answers.dups)
         sure.answers.most ready
 
     pub phase5_comes : {T : Type 0} (r : Result T RunFault) {root : Root} →
@@ -331,7 +331,7 @@ module _ (s : Superblock) where
         next r (phase5_done s d w u' root) at (λ bytes k. k) ran
         (spends_left _ r ran.text (omega (arith, few)) (λ bytes k. omega (arith, few))) (λ bytes k. refl)
         (λ bytes k. some_more (summary_of s (file_count s.layout bytes) (claimed_count s.layout bytes)) [])
-        (on_any r (sure, λ bytes k. claims_held s.layout bytes u u' held k.1)) (at_err r sure.answers.dups)
+        (on_any r (sure, λ bytes k. claims_held s.layout bytes u u' held k.1)) (at_error r sure.answers.dups)
         sure.answers.most ready
 
   -- the summary reads nothing

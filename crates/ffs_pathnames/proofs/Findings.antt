@@ -1,5 +1,5 @@
 -- What the check of directories leaves of what was found before it.
-use Rattle.std.proofs.Common.{◌≡◌, ◌∙◌, Result, Ok, Err, OnErr, ap, refl}
+use Rattle.std.proofs.Common.{◌≡◌, ◌∙◌, ap, refl}
 use Rattle.ffs_workspace.specs.{declared.workspace.Workspace.Workspace, Leaves.LeavesFindings}
 use Rattle.ffs_workspace.proofs.Leaving.{block_check_kept, block_check_more, queue_leaves}
 
@@ -35,8 +35,3 @@ findings_noted old new e = record {
   reached = ap (λ (w : Workspace). w.reached) e;
   parents = ap (λ (w : Workspace). w.parents) e;
 }
-
--- what holds in any case holds at an error
-pub at_error : {T E P : Type 0} (r : Result T E) → P → OnErr r P
-at_error (Ok x) p = tt
-at_error (Err e) p = p

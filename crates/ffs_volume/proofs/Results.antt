@@ -1,5 +1,5 @@
 -- What holds of the answers of a result.
-use Rattle.std.proofs.{Common.{Result, Ok, Err}, Common.OnOk, lemmas.Result.on_ok_weaker}
+use Rattle.std.proofs.{Common.{Result, Ok, Err}, Common.{OnErr, OnOk}, lemmas.Result.on_ok_weaker}
 
 -- what follows from a fact of an Ok answer
 pub on_ok : {T E : Type 0} (r : Result T E) (P Q : Type 0) → (P → Q) → OnOk r P → OnOk r Q
@@ -9,3 +9,7 @@ on_ok r P Q f h = on_ok_weaker r f h
 pub on_any : {T E P : Type 0} (r : Result T E) → P → OnOk r P
 on_any (Ok x) p = p
 on_any (Err e) p = tt
+
+pub at_error : {T E P : Type 0} (r : Result T E) → P → OnErr r P
+at_error (Ok x) p = tt
+at_error (Err e) p = p

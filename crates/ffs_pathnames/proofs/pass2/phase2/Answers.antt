@@ -18,7 +18,7 @@ use Rattle.ffs_names.{proofs.{DirCosts.noted_all_within, RunSums.costs_bounded},
 use Rattle.ffs_workspace.specs.{declared.workspace.Workspace.Workspace, Found.WithClaims, Holds.HoldsBlockCheck}
 use Rattle.ffs_workspace.{specs.Holds.{HoldsFindings, HoldsReferences, HoldsSurvey}, proofs.Leaving.block_check_kept}
 use Rattle.ffs_workspace.proofs.Leaving.{block_check_more, claims_left, findings_claims}
-use Rattle.ffs_pathnames.proofs.Findings.{at_error}
+use Rattle.ffs_volume.proofs.Results.{at_error}
 use Rattle.ffs_pathnames.proofs.pass2.phase2.Goals as goal
 
 -- what is known before the first directory
