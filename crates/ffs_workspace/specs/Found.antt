@@ -1,27 +1,27 @@
 -- What is known of bytes between the phases: an image gives them, and a workspace holds what was
 -- found in them.
-use Rattle.std.specs.Prelude.{ℕ, List}
-use Rattle.ffs_image.specs.{Device.Device, Known.IsContents}
+use Rattle.std.specs.Prelude.{◌≡◌, ℕ, List, Some}
+use Rattle.ffs_image.specs.Device.{Device}
 use Rattle.ffs_volume.specs.declared.Layout.{Layout}
 use Rattle.ffs_workspace.specs.declared.workspace.Workspace.{Workspace}
 use Rattle.ffs_workspace.specs.Holds.{IsFresh, HoldsPhase1, HoldsBlockCheck, HoldsFindings, HoldsSurvey}
 
 -- the image gives the bytes, and the workspace holds nothing yet
 abbrev pub WithFresh : Layout → Device → Workspace → List ℕ → Type 0
-WithFresh v d w bytes = IsContents d.contents bytes × IsFresh v w
+WithFresh v d w bytes = (d.contents ≡ Some bytes) × IsFresh v w
 
 -- it holds what phase 1 leaves
 abbrev pub WithPhase1 : Layout → Device → Workspace → List ℕ → Type 0
-WithPhase1 v d w bytes = IsContents d.contents bytes × HoldsPhase1 v bytes w
+WithPhase1 v d w bytes = (d.contents ≡ Some bytes) × HoldsPhase1 v bytes w
 
 -- it holds what the block check found
 abbrev pub WithClaims : Layout → Device → Workspace → List ℕ → Type 0
-WithClaims v d w bytes = IsContents d.contents bytes × HoldsBlockCheck v bytes w
+WithClaims v d w bytes = (d.contents ≡ Some bytes) × HoldsBlockCheck v bytes w
 
 -- it holds what the block check and the survey found
 abbrev pub WithSurvey : Layout → Device → Workspace → List ℕ → Type 0
-WithSurvey v d w bytes = IsContents d.contents bytes × HoldsBlockCheck v bytes w × HoldsSurvey v bytes w
+WithSurvey v d w bytes = (d.contents ≡ Some bytes) × HoldsBlockCheck v bytes w × HoldsSurvey v bytes w
 
 -- it holds what the check of reference counts goes by
 abbrev pub WithFindings : Layout → Device → Workspace → List ℕ → Type 0
-WithFindings v d w bytes = IsContents d.contents bytes × HoldsFindings v bytes w
+WithFindings v d w bytes = (d.contents ≡ Some bytes) × HoldsFindings v bytes w
