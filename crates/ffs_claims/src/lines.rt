@@ -1,11 +1,12 @@
-//! The lines of phase 1, but for that of a Tail (`claim_step` of `offer`).
+//! The lines of phase 1.
 
-ghost use Rattle.std.specs.Prelude.{◌≡◌, ◌==◌, ◌&&◌, ◌<◌, ◌^◌, not};
+ghost use Rattle.std.specs.Prelude.{◌≡◌, ◌==◌, ◌&&◌, ◌<◌, ◌^◌, [], ◌∷◌, not};
 ghost use Rattle.ffs_volume.specs.Blocks.{BlockCheck.{class_lines, count_lines}, Inodes.is_file_or_dir};
 ghost use Rattle.ffs_report.specs.Progress.{progress, Says};
 ghost use Rattle.ffs_workspace.specs.Holds.{claims_of};
 ghost use Rattle.ffs_claims.specs.Lines.{of_lines, counted_owner, dup_lines, bad_lines};
 ghost use Rattle.ffs_volume.specs.Blocks.Claims as claims;
+ghost use Rattle.ffs_volume.specs.declared.BlockMessage.TheVariants as lines;
 
 use crate::offer::is_open;
 use ffs_layout::Geometry;
@@ -78,6 +79,17 @@ pub fn say_dup<W: Output>(
         return report.say(&Line::Block(BlockMessage::ManyDup { inode: number }));
     }
     Ok(())
+}
+
+/// Reports an inode at the first of its Tails that is kept.
+///
+/// # Errors
+/// A write of the report that failed.
+pub fn say_tail<W: Output>(number: u32, report: &mut Report<'_, W>) -> Result<(), OutFault>
+    ensures { Says (progress W.sink report.old) (progress W.sink report.new)
+        (of_lines (lines.PartTrunc number ∷ [])) result }
+{
+    report.say(&Line::Block(BlockMessage::PartTrunc { inode: number }))
 }
 
 /// Whether a class is that of a file or of a directory.

@@ -11,11 +11,11 @@ ghost use Rattle.ffs_volume.specs.Blocks.Claims as claims;
 ghost use Rattle.ffs_volume.specs.declared.Step.TheVariants as steps;
 
 use crate::area::{DataArea, Run};
-use crate::lines::{say_bad, say_dup};
+use crate::lines::{say_bad, say_dup, say_tail};
 use ffs_layout::Geometry;
-use ffs_report::{Line, OutFault, Output, Report};
+use ffs_report::{OutFault, Output, Report};
+use ffs_volume::Step;
 use ffs_volume::constants::{MAXBAD, MAXDUP};
-use ffs_volume::{BlockMessage, Step};
 use ffs_workspace::Workspace;
 
 /// Whether the next step of the current inode is seen.
@@ -38,11 +38,11 @@ fn fragment_in_range(geometry: &Geometry, fragment: u64, in_range: bool) -> bool
     in_range || (fragment < u64::from(geometry.layout.size) && geometry.ok(fragment as u32))
 }
 
-/// Takes an offer, and says whether it is dup and kept, and so has a DUP line. `in_range` says that
-/// its Run is in range.
+/// Takes an offer, and reports nothing. Returns whether the offer is dup and kept, and so has a DUP
+/// line, which `take_offer` says. `in_range` says that its Run is in range.
 #[inline(always)]
 #[tactic(auto, using(crate::proofs::Frames::stay, ffs_volume::proofs::Potentials::in_range_below))]
-fn claim_offer(
+fn take_offer_silently(
     geometry: &Geometry,
     workspace: &mut Workspace,
     fragment: u64,
@@ -69,7 +69,7 @@ fn claim_offer(
     true
 }
 
-/// Takes one offer, and reports what is wrong with it.
+/// Takes one offer, and reports what is wrong with it. `in_range` says that its Run is in range.
 fn take_offer<W: Output>(
     geometry: &Geometry,
     workspace: &mut Workspace,
@@ -86,7 +86,7 @@ fn take_offer<W: Output>(
     ensures taken { TakesOffer geometry.now.layout fragment workspace.old workspace.new }
 {
     let is_eleventh = workspace.dup_offers == MAXDUP;
-    if !claim_offer(geometry, workspace, fragment, in_range) {
+    if !take_offer_silently(geometry, workspace, fragment, in_range) {
         return Ok(());
     }
     say_dup(number, fragment as u32, is_eleventh, report)
@@ -230,7 +230,7 @@ pub fn claim_step<W: Output>(
         Step::Tail => {
             if !workspace.tail {
                 workspace.tail = true;
-                report.say(&Line::Block(BlockMessage::PartTrunc { inode: number }))?;
+                say_tail(number, report)?;
             }
             Ok(true)
         }

@@ -2,7 +2,7 @@ use Rattle.std.proofs.{Common.{◌≡◌, nat_lt, true, arith, refl, sym, ◌∙
 use Rattle.ffs_maps.specs.Bits.{bits_of}
 use Rattle.ffs_claims.specs.Leaves.{StaySet}
 use Rattle.ffs_claims.proofs.{Frames.{offers_claimed, stay_claimed, stay_one}, UnclaimedRuns.{was_set, is_set_now}}
-use Rattle.ffs_claims.proofs.offer.claim_offer.Goals as goal
+use Rattle.ffs_claims.proofs.offer.take_offer_silently.Goals as goal
 
 -- the fragment is claimed
 pub returns-then-claim : goal.returns-then-claim
