@@ -9,9 +9,10 @@ use Rattle.ffs_volume.specs.Blocks.{Claims.{reserved_map, no_claims}, Owners.{Ow
 use Rattle.ffs_volume.specs.{Blocks.BlockCheck.{phase1_lines, phase1b_lines}, Consistent.BlocksRight.times}
 use Rattle.ffs_volume.specs.{Consistent.BlocksRight.BlocksRight, Groups.Records.{group_block, summary_record}}
 use Rattle.ffs_volume.specs.Groups.Records.{group_numbers, has_right_magic, maps_fit, has_right_maps, has_right_sums}
-use Rattle.ffs_volume.specs.Groups.Records.{has_right_record, has_right_totals, IsGroupRight, AreGroupsRight}
+use Rattle.ffs_volume.specs.{Groups.Records.{has_right_record, has_right_totals}, Consistent.GroupsRight.IsGroupRight}
+use Rattle.ffs_volume.specs.Consistent.GroupsRight.{AreGroupsRight}
 use Rattle.ffs_volume.specs.Groups.GroupCheck.{unless, group_lines, all_group_lines, reported_once, unreported}
-use Rattle.ffs_volume.specs.Groups.GroupCheck.{phase5_lines, is_free_of_kept, is_free_of_runs}
+use Rattle.ffs_volume.specs.{Groups.GroupCheck.{phase5_lines, is_free_of_kept}, Consistent.GroupsRight.is_free_of_runs}
 use Rattle.ffs_certificate.proofs.BlocksSilent.{nil_is, right_quiet, runs_below, reserved_length, reserved_bit, bit}
 use Rattle.ffs_certificate.proofs.{BlocksSilent.{times_cons, marked_bit, blocks_silent}, BlockLaws.{is_nil, nil_append}}
 use Rattle.ffs_certificate.proofs.BlockLaws.{owners_claim, owners_from}

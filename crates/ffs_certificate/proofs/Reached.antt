@@ -3,7 +3,7 @@ use Rattle.std.proofs.Common.{arith, ◌≡◌, ◌≢◌, ℕ, Bool, true, fals
 use Rattle.std.proofs.{Common.{List, [], ◌∷◌}, lemmas.Bool.{both_ways, cases_Bool, and_parts, and_from, or_cases}}
 use Rattle.std.{proofs.lemmas.Bool.{or_right, false_from_ne_true, ne_eqb, eqb-true}, specs.List.list_any}
 use Rattle.ffs_volume.specs.{Disk.Search.some_below, Directories.Graph.{Graph, edge, reached, parent}}
-use Rattle.ffs_volume.specs.Directories.Connectivity.{is_lost}
+use Rattle.ffs_volume.specs.Directories.Connectivity.{is_lost_in}
 use Rattle.ffs_volume.specs.Directories.{Connectivity.{is_dead_in, none_or_dead, is_unref_dir_in}, Graph.level}
 use Rattle.ffs_volume.specs.Directories.Graph.{level_edge}
 use Rattle.ffs_volume.specs.Directories.{Graph.{first_index, test_at, is_naming_entry_at}, Roles.RoledEntry}
@@ -16,25 +16,25 @@ use Rattle.ffs_volume.proofs.{LevelLaws.reached-level, ClimbLaws.{StaysBelow, so
 -- a lost directory without a line has a lost parent
 lost-next : (v : Graph) (suspect : ℕ → Bool) (d : ℕ) → IsSane v → IsLost v suspect d → is_unref_dir_in v suspect d ≡
     false
-    → (s : ℕ) × (parent v d ≡ Some s) × (is_lost v suspect s ≡ true)
+    → (s : ℕ) × (parent v d ≡ Some s) × (is_lost_in v suspect s ≡ true)
 lost-next v suspect d sane l u = grind (arith, first_below-some, parent-unreached, reached-edge, reached-root)
 
 -- where some directory is lost, one has a line
-pub lost-reported : (v : Graph) (suspect : ℕ → Bool) (d : ℕ) → IsSane v → is_lost v suspect d ≡ true →
+pub lost-reported : (v : Graph) (suspect : ℕ → Bool) (d : ℕ) → IsSane v → is_lost_in v suspect d ≡ true →
     (e : ℕ) × (is_unref_dir_in v suspect e ≡ true)
 lost-reported v suspect d sane h =
     elim (cases_Bool (some_below (is_unref_dir_in v suspect) v.count)) [
       | inl y ↦ let w = some_below-gives (is_unref_dir_in v suspect) v.count y in (w.0, w.1.passes)
       | inr y ↦
           let quiet = some_below-false (is_unref_dir_in v suspect) v.count y in
-          let g : StaysBelow (parent v) (is_lost v suspect) v.count = grind (arith, lost-next, lost-true) in
-          let w = some_leader (parent v) (is_lost v suspect) v.count d g h in
-          (w.0, and_from (is_lost v suspect w.0) _ w.1 (or_right (none_or_dead v suspect (parent v w.0)) _ w.2))
+          let g : StaysBelow (parent v) (is_lost_in v suspect) v.count = grind (arith, lost-next, lost-true) in
+          let w = some_leader (parent v) (is_lost_in v suspect) v.count d g h in
+          (w.0, and_from (is_lost_in v suspect w.0) _ w.1 (or_right (none_or_dead v suspect (parent v w.0)) _ w.2))
     ]
 
 -- a directory that is not reached is dead or lost
 pub dead_or_lost : (v : Graph) (suspect : ℕ → Bool) (d : ℕ) → IsSane v → v.is_dir d ≡ true → reached v d ≡ false →
-    (is_dead_in v suspect d || is_lost v suspect d) ≡ true
+    (is_dead_in v suspect d || is_lost_in v suspect d) ≡ true
 dead_or_lost v suspect d sane h u = grind (arith, reached-root)
 
 -- the law: with nothing dead, phase 3 is silent exactly where each directory is reached
@@ -43,14 +43,14 @@ pub silent-reached : (v : Graph) (suspect : ℕ → Bool) → IsSane v → NoneD
 silent-reached v suspect sane quiet = (
   (λ none d h. elim (cases_Bool (reached v d)) [
     | inl y ↦ y
-    | inr y ↦ absurd (elim (or_cases (is_dead_in v suspect d) (is_lost v suspect d)
+    | inr y ↦ absurd (elim (or_cases (is_dead_in v suspect d) (is_lost_in v suspect d)
         (dead_or_lost v suspect d sane h y)) [
           | inl a ↦ both_ways (is_dead_in v suspect d) (quiet d) a
           | inr b ↦ let w = lost-reported v suspect d sane b in both_ways (is_unref_dir_in v suspect w.0) (none w.0) w.1
         ])
   ]),
   (λ all d. false_from_ne_true (is_unref_dir_in v suspect d) (λ t.
-      let l = lost-true v suspect d (and_parts (is_lost v suspect d) _ t).0 in
+      let l = lost-true v suspect d (and_parts (is_lost_in v suspect d) _ t).0 in
       both_ways (reached v d) l.unreached (all d l.dir))),
 )
 

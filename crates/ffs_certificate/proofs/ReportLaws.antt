@@ -4,7 +4,8 @@ use Rattle.std.proofs.{Common.refl, lemmas.{Bool.{or_parts, or_from}, List.Folds
 use Rattle.ffs_volume.specs.declared.{Class.Class, BlockMessage.BlockMessage, End.TheVariants.Consistent}
 use Rattle.ffs_volume.specs.Blocks.{BlockCheck.{phase1_lines, phase1b_lines}, Owners.owners_of, Inodes.is_directory}
 use Rattle.ffs_volume.specs.Consistent.{BlocksRight.BlocksRight, Volume.{AreSettingsRight, IsConsistent}}
-use Rattle.ffs_volume.specs.Groups.{Records.AreGroupsRight, GroupCheck.{phase5_lines, is_free_of_kept, is_free_of_runs}}
+use Rattle.ffs_volume.specs.{Consistent.GroupsRight.{AreGroupsRight, is_free_of_runs}, Groups.GroupCheck.phase5_lines}
+use Rattle.ffs_volume.specs.Groups.GroupCheck.{is_free_of_kept}
 use Rattle.ffs_volume.specs.Messages.Kinds.{Message, TreeMessage, of_blocks, of_tree, is_defect, has_defect}
 use Rattle.ffs_volume.specs.{Disk.Superblock.Superblock, Laws.Geometry.IsAcceptedLayout, Report.Opening.setting_lines}
 use Rattle.ffs_volume.specs.Report.{Opening.super_lines, Whole.{later_phase_lines, phase_lines, report_lines, end_of}}

@@ -11,13 +11,13 @@ use Rattle.ffs_volume.specs.Directories.PathnameCheck.{root_lines, root_lines_of
 use Rattle.ffs_volume.specs.Directories.PathnameCheck.{are_sound, dot_defects, dotdot_defects, is_dot_silent}
 use Rattle.ffs_volume.specs.Directories.PathnameCheck.{is_wrong_parent, header_defects, header_of, dir_header_lines}
 use Rattle.ffs_volume.specs.Directories.PathnameCheck.{sized_dir_lines, directory_lines, pathname_lines}
-use Rattle.ffs_volume.specs.Directories.Parents.{is_first_naming_entry, is_parent_entry}
+use Rattle.ffs_volume.specs.Directories.Naming.{is_first_naming_entry, is_parent_entry}
 use Rattle.ffs_volume.specs.Directories.{Entries.is_live, Roles.{entry_if, start_entry, is_one_dot, is_two_dots}}
 use Rattle.ffs_volume.proofs.VerdictLaws.{IsPlainSilent, silent_parts, silent_of, silent_from, silent_lines}
 use Rattle.ffs_volume.proofs.VerdictLaws.{header_silent_from, header_silent}
 use Rattle.ffs_volume.specs.Directories.Connectivity.{is_dead, is_unref_dir, connectivity_lines}
 use Rattle.ffs_volume.specs.Directories.ReferenceCheck.{inode_reference_lines, reference_lines_at, reference_lines}
-use Rattle.ffs_volume.specs.{Directories.Parents.{graph_of, nth_roled}, Messages.Kinds.lines_below}
+use Rattle.ffs_volume.specs.{Directories.Naming.{graph_of, nth_roled}, Messages.Kinds.lines_below}
 use Rattle.ffs_volume.specs.{Disk.Numbers.equals_natural}
 use Rattle.ffs_volume.proofs.Silence.{nil-left, nil-right, nil-both, reported-quiet}
 use Rattle.ffs_volume.proofs.Silence.{then-silent, lines-quiet, lines-silent}

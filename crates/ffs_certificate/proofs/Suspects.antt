@@ -3,7 +3,7 @@ use Rattle.std.proofs.Common.{◌≡◌, ◌≢◌, ℕ, zero, suc, Bool, true, 
 use Rattle.std.{proofs.{Common.arith, lemmas.Bool.ne_eqb}, specs.List.flat_map}
 use Rattle.ffs_volume.specs.{declared.Role.TheVariants.Plain, Directories.Roles.{Volume, RoledEntry, role_of}}
 use Rattle.ffs_volume.specs.Directories.Roles.{roled_from, roled_chunk, roled_entries, is_dir, is_allocated_inode}
-use Rattle.ffs_volume.specs.Directories.{Roles.is_suspect, Parents.{nth_roled, graph_of, is_first_naming_entry}}
+use Rattle.ffs_volume.specs.Directories.{Roles.is_suspect, Naming.{nth_roled, graph_of, is_first_naming_entry}}
 use Rattle.ffs_volume.specs.Directories.{Graph.{is_naming_entry, is_naming_dir, is_named}, Entries.{Entry, Chunk}}
 use Rattle.ffs_volume.proofs.{SearchLaws.{some_below-gives, first_below-is}, ClimbLaws.is_value-from, Graphs.IsSane}
 use Rattle.ffs_volume.proofs.Graphs.{NoneDead}

@@ -3,8 +3,8 @@ use Rattle.std.specs.Prelude.{◌≡◌, ◌↔◌, ℕ, ℤ, true, ◌||◌, Li
 use Rattle.ffs_volume.specs.{declared.Layout.Layout, Disk.Areas.{is_fragment_in_range, is_reserved}}
 use Rattle.ffs_volume.specs.Blocks.{Owners.{Owner, owners_of}, Claims.{is_set, no_claims, after_owners}}
 use Rattle.ffs_volume.specs.Blocks.{KeptOffers.kept_in_owners, BlockCheck.{phase1_lines, phase1b_lines}}
-use Rattle.ffs_volume.specs.{Consistent.BlocksRight.BlocksRight, Groups.Records.AreGroupsRight}
-use Rattle.ffs_volume.specs.Groups.GroupCheck.{phase5_lines, is_free_of_kept, is_free_of_runs}
+use Rattle.ffs_volume.specs.Consistent.{BlocksRight.BlocksRight, GroupsRight.AreGroupsRight}
+use Rattle.ffs_volume.specs.{Groups.GroupCheck.{phase5_lines, is_free_of_kept}, Consistent.GroupsRight.is_free_of_runs}
 use Rattle.ffs_volume.specs.Blocks.KeptByRule.{all_offers, is_claimed_before, verdicts, kept_by_rule}
 use Rattle.ffs_volume.specs.Directories.Volumes.{class_at}
 

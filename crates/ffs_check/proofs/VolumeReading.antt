@@ -13,7 +13,7 @@ use Rattle.ffs_volume.specs.{declared.{Layout.Layout, Step.{Step, TheVariants.{G
 use Rattle.ffs_volume.specs.{Disk.Superblock.Superblock, Messages.Kinds.of_tree}
 use Rattle.ffs_volume.specs.Directories.{Connectivity.connectivity_lines, ReferenceCheck.reference_lines}
 use Rattle.ffs_volume.specs.Directories.{PathnameCheck.{continues_after_root, pathname_lines}, Volumes.volume_of}
-use Rattle.ffs_volume.specs.Costs.DirectoryReads.{directory_cost, sweep_costs, is_looked_at, phase2_cost}
+use Rattle.ffs_volume.specs.Costs.DirectoryReads.{directory_cost, noted_directories_cost, is_looked_at, phase2_cost}
 use Rattle.std.proofs.Math.Nat.{div-add-mod', mul-le-mul_left}
 use Rattle.ffs_survey.proofs.Costs.{costs_part}
 use Rattle.ffs_names.proofs.Limits.{costs_within, noted_within}
@@ -74,7 +74,7 @@ directories_few : (v : Layout) (bytes : List ℕ) → IsAcceptedLayout v → pha
 directories_few v bytes g =
     let all = costs_within v bytes g in
     let looked = costs_part (is_looked_at v bytes) (directory_cost v bytes) (v.ncg * v.ipg) in
-    let noted = sweep_costs v bytes in
+    let noted = noted_directories_cost v bytes in
     let places = few_of (some_below (is_looked_at v bytes) (v.ncg * v.ipg)) noted 0 noted (omega arith) (omega arith) in
     omega (arith, all, looked, places, noted_within v bytes g)
 

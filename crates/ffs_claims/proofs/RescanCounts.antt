@@ -12,8 +12,8 @@ use Rattle.ffs_volume.specs.{Blocks.{KeptOffers.kept_in_steps, Owners.{Owner}}, 
 use Rattle.ffs_volume.specs.Encodings.Replay.{is_replay_open, fresh_replay, cut_of, replay_after_step}
 use Rattle.ffs_volume.specs.{Encodings.ReplayCounts.{seen_run, replay_step_by_cut}, Report.Whole.run_count}
 use Rattle.ffs_volume.specs.declared.{Layout.Layout, Step.{Step, TheVariants.{Run, Tail, Gap}}}
-use Rattle.ffs_volume.specs.Blocks.BlockCheck.{set_count, after_first, step_runs, runs_until_reported, steps_runs}
-use Rattle.ffs_volume.specs.Blocks.BlockCheck.{owners_runs, rescan_runs}
+use Rattle.ffs_volume.specs.Blocks.BlockCheck.{set_count, after_first, run_offers_of_step, runs_until_reported, run_offers_of_steps}
+use Rattle.ffs_volume.specs.Blocks.BlockCheck.{run_offers_of_owners, rescan_runs}
 use Rattle.ffs_volume.specs.Costs.VolumeReads.{indirect_in_steps, seen_indirect}
 use Rattle.ffs_walk.specs.{Counts.entered, Keepings.run_taken}
 use Rattle.ffs_claims.{proofs.Reportings.{after_append, none_after}, specs.Rescan.{step_offers_again, offers_again}}
@@ -68,7 +68,7 @@ run_offers v i s cut start len block going seen next = grind (arith, offers_firs
 -- a step, replayed: its kept offers, and those of its Run
 pub record StepAgain (v : Layout) (i cut : ℕ) (s : Claims) (r : Replay) (step : Step) : Type 0 where
   pub offers : kept_in_step v i s step ≡ step_offers_again v i cut r step
-  pub looks : step_runs v i s step ≡ step_runs_again v i cut r step
+  pub looks : run_offers_of_step v i s step ≡ step_runs_again v i cut r step
 
 pub step_again : (v : Layout) (i cut : ℕ) (s : Claims) (step : Step) → is_replay_open cut (replay_of s) ≡ is_open s →
     replay_after_step v cut (replay_of s) step ≡ replay_of (after_step v s step) →
@@ -83,7 +83,7 @@ step_again v i cut s other going next = record { offers = refl; looks = refl }
 -- what some steps are, replayed
 pub record StepsAgain (v : Layout) (i cut : ℕ) (s : Claims) (r : Replay) (steps : List Step) : Type 0 where
   pub offers : kept_in_steps v i s steps ≡ offers_again v i cut r steps
-  pub looks : steps_runs v i s steps ≡ steps_runs_again v i cut r steps
+  pub looks : run_offers_of_steps v i s steps ≡ steps_runs_again v i cut r steps
 
 steps_again : (v : Layout) (i : ℕ) (s : Claims) (steps : List Step) → s.dup_offers ≤ s.kept →
     StepsAgain v i (cut_of (after_steps v s steps)) s (by_cut (cut_of (after_steps v s steps)) (replay_of s)) steps
@@ -212,28 +212,28 @@ entered_gaps v cut r (suc n) R = let more = entered_gaps v cut r n R in grind ar
 
 -- ---- the rescan looks at no Run that phase 1 didn't see
 -- each Run that is seen is counted once
-step_seen : (v : Layout) (i : ℕ) (s : Claims) (step : Step) → s.runs + length (step_runs v i s step)
+step_seen : (v : Layout) (i : ℕ) (s : Claims) (step : Step) → s.runs + length (run_offers_of_step v i s step)
     ≡ (after_step v s step).runs
 step_seen v i s Gap = omega arith
 step_seen v i s Tail = grind arith
 step_seen v i s (Run start len block) = grind (arith, offers_runs)
 
-steps_seen : (v : Layout) (i : ℕ) (s : Claims) (steps : List Step) → s.runs + length (steps_runs v i s steps)
+steps_seen : (v : Layout) (i : ℕ) (s : Claims) (steps : List Step) → s.runs + length (run_offers_of_steps v i s steps)
     ≡ (after_steps v s steps).runs
 steps_seen v i s [] = omega arith
 steps_seen v i s (step ∷ steps) =
     let one = step_seen v i s step in
     let more = steps_seen v i (after_step v s step) steps in
-    omega (arith, one, more, length-append (step_runs v i s step) (steps_runs v i (after_step v s step) steps))
+    omega (arith, one, more, length-append (run_offers_of_step v i s step) (run_offers_of_steps v i (after_step v s step) steps))
 
-owners_seen : (v : Layout) (s : Claims) (os : List Owner) → s.runs + length (owners_runs v s os)
+owners_seen : (v : Layout) (s : Claims) (os : List Owner) → s.runs + length (run_offers_of_owners v s os)
     ≡ (after_owners v s os).runs
-unfolding owners_runs
+unfolding run_offers_of_owners
 owners_seen v s [] = omega arith
 owners_seen v s (o ∷ os) =
     let one = steps_seen v o.number (at_next_inode s) o.steps in
     let more = owners_seen v (after_owner v s o) os in
-    let both = length-append (steps_runs v o.number (at_next_inode s) o.steps) (owners_runs v (after_owner v s o) os) in
+    let both = length-append (run_offers_of_steps v o.number (at_next_inode s) o.steps) (run_offers_of_owners v (after_owner v s o) os) in
     omega arith
 
 looked_most : (dup : List Bool) (runs : List (List Offer)) → runs_until_reported dup runs ≤ length runs

@@ -14,7 +14,7 @@ use Rattle.ffs_volume.specs.{Directories.Volumes.is_inode_number, Encodings.Repl
 use Rattle.ffs_volume.specs.{Encodings.ReplayCounts.replayed_runs, Laws.Geometry.IsAcceptedLayout}
 use Rattle.ffs_volume.specs.{Report.Whole.run_count, declared.{Layout.Layout, Step.{Step, TheVariants.Run}}}
 use Rattle.ffs_volume.specs.{Encodings.Notes.{cut_in, note_at}}
-use Rattle.ffs_volume.specs.Blocks.BlockCheck.{after_first, owners_runs, runs_until_reported, set_count}
+use Rattle.ffs_volume.specs.Blocks.BlockCheck.{after_first, run_offers_of_owners, runs_until_reported, set_count}
 use Rattle.ffs_workspace.proofs.{Leaving.counts_unsurveyed, NoteLaws.cut_is_noted}
 use Rattle.ffs_workspace.specs.{Holds.{HoldsPhase1, HoldsBlockCheck}, declared.workspace.Workspace.Workspace}
 use Rattle.ffs_claims.proofs.{Duplicates.marked_total, Numbers.{before_end, is_inside}, RescanCounts.looked_both}
@@ -43,7 +43,7 @@ abbrev pub kept_from : Layout → List ℕ → ℕ → List Offer
 kept_from v bytes n = kept_in_owners v (claims_before v bytes n) (owners_from v bytes n)
 
 abbrev pub runs_from : Layout → List ℕ → ℕ → List (List Offer)
-runs_from v bytes n = owners_runs v (claims_before v bytes n) (owners_from v bytes n)
+runs_from v bytes n = run_offers_of_owners v (claims_before v bytes n) (owners_from v bytes n)
 
 -- n is an inode's number, and its cut is noted
 pub record IsNoted (v : Layout) (bytes notes : List ℕ) (n : ℕ) : Type 0 where
@@ -72,7 +72,7 @@ kept_next v bytes notes n p = grind (arith, inode_again, arith, range_more, befo
 pub looked_on : (v : Layout) (bytes notes : List ℕ) (n : ℕ) (dup dup' : List Bool) → IsNoted v bytes notes n →
     dup' ≡ after_first dup (offers_at v bytes notes n) → runs_until_reported dup (runs_from v bytes n)
     ≡ runs_until_reported dup (runs_at v bytes notes n) + runs_until_reported dup' (runs_from v bytes (n + 1))
-unfolding owner_of owners_runs
+unfolding owner_of run_offers_of_owners
 looked_on v bytes notes n dup dup' p d =
     let high = p.high in
     let again = inode_again v n (claims_before v bytes n) (steps_of v (inode_of v bytes n) bytes) in
@@ -119,8 +119,8 @@ pub kept_end : (v : Layout) (bytes : List ℕ) (s : Claims) (n : ℕ) → inodes
 kept_end v bytes s n past = let none : inodes_of v - n ≡ 0 = omega arith in rw none refl
 
 pub looked_end : (v : Layout) (bytes : List ℕ) (dup : List Bool) (s : Claims) (n : ℕ) → inodes_of v ≤ n →
-    runs_until_reported dup (owners_runs v s (owners_from v bytes n)) ≡ 0
-unfolding owners_runs runs_until_reported
+    runs_until_reported dup (run_offers_of_owners v s (owners_from v bytes n)) ≡ 0
+unfolding run_offers_of_owners runs_until_reported
 looked_end v bytes dup s n past = let none : inodes_of v - n ≡ 0 = omega arith in rw none refl
 
 -- the count of Runs of an inode more

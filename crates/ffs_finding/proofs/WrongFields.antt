@@ -3,7 +3,7 @@ use Rattle.std.proofs.Common.{◌≡◌, ◌∙◌, ℕ, ◌+◌, ◌<◌, List,
 use Rattle.std.proofs.{Common.{add-one, append-nil}, Math.Seq.take-suc, lemmas.List.Concat.flat_map-append}
 use Rattle.std.specs.List.{concat, flat_map}
 use Rattle.ffs_report.{specs.Sink.{Sink, Took, BrokeOff}, proofs.Sinks.{took_then, broke_off_in_item}}
-use Rattle.ffs_volume.specs.Find.Fields.{field_lines, field_text, is_right_field}
+use Rattle.ffs_volume.specs.Find.Fields.{field_lines, field_text, has_what_it_wants}
 use Rattle.ffs_volume.specs.Find.Fields as book
 use Rattle.ffs_finding.specs.{Outcome.any_line, Fields.{field_of, wrong_lines}, declared.fields.Field.Field}
 use Rattle.ffs_finding.proofs.Printing.{any_more, concat-append, text_at_end}
@@ -13,7 +13,7 @@ pub field_is_text : (start : ℕ) (f : book.Field) → any_line (field_text star
 field_is_text start f = text_at_end f.name _ refl
 
 -- a wrong field has one line
-pub field_line : (start : ℕ) (f : book.Field) → is_right_field f ≡ false → field_lines start f ≡ field_text start f ∷ []
+pub field_line : (start : ℕ) (f : book.Field) → has_what_it_wants f ≡ false → field_lines start f ≡ field_text start f ∷ []
 field_line start f wrong = rw wrong refl
 
 module _ (start : ℕ) (fields : List Field) (i : ℕ) (d : Field) (low : i < length fields) where

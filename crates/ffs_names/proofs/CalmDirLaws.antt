@@ -5,7 +5,7 @@ use Rattle.std.proofs.lemmas.List.FromFn.{get_or-map-range_with_len, length-map-
 use Rattle.std.specs.List.{range_with_len}
 use mathlib.Core.Path.{fun_ext}
 use Rattle.ffs_volume.specs.{Encodings.{Kinds.kind_at, Lists.{bool_at, number_at}}, Directories.Graph.reached}
-use Rattle.ffs_volume.specs.Directories.{Parents.graph_of, Roles.{is_dir, roled_entries}, Volumes.marked_at}
+use Rattle.ffs_volume.specs.Directories.{Naming.graph_of, Roles.{is_dir, roled_entries}, Volumes.marked_at}
 use Rattle.ffs_volume.specs.{Directories.Volumes.volume_of, Costs.Calm.is_calm_by_parents, Blocks.Inodes.inodes_of}
 use Rattle.ffs_volume.specs.Costs.Calm.{is_calm_directory, kinds_in, marks_in, parent_number, is_right_shape}
 use Rattle.ffs_survey.specs.{Calm.EachCalmIsFlagged, Survey.IsSurvey}

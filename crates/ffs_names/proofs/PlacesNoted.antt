@@ -13,7 +13,7 @@ use Rattle.ffs_volume.{proofs.{SearchLaws.first_below-some, Unreached.edge-parts
 use Rattle.ffs_volume.specs.{Disk.{Numbers.piece, Search.first_below}, Laws.{Geometry.IsAcceptedLayout, Levels.IsLevel}}
 use Rattle.ffs_volume.specs.Directories.{Entries.{Chunk, Entry, chunk_of, entries_of}, Graph.{Graph, edge}}
 use Rattle.ffs_volume.specs.Directories.Graph.{is_naming_dir, is_naming_entry, level, level_edge, parent, parent_by}
-use Rattle.ffs_volume.specs.Directories.{Graph.reached, Climb.is_value, Parents.graph_of, Roles.{RoledEntry, is_dir}}
+use Rattle.ffs_volume.specs.Directories.{Graph.reached, Climb.is_value, Naming.graph_of, Roles.{RoledEntry, is_dir}}
 use Rattle.ffs_volume.specs.Directories.{Roles.{role_of, roled_chunk, roled_entries, roled_from}, Volumes.volume_of}
 use Rattle.ffs_volume.specs.{Directories.Volumes.volume_with, Blocks.Inodes.inodes_of}
 use Rattle.ffs_volume.specs.Encodings.Places.{entries_in_chunk, entries_in_part, is_due as is_to_be_read, name_in}

@@ -3,9 +3,9 @@ use Rattle.std.proofs.Common.{◌≡◌, ◌∙◌, ◌+◌, ◌≤◌, ℕ, Boo
 use Rattle.std.{proofs.{Common.{min, slice_index, sym, refl}, lemmas.Bool.and_parts}, specs.Result.is_ok}
 use Rattle.std.specs.Prelude.{Result, Ok, Err, OnOk, OnErr}
 use Rattle.ffs_image.specs.Known.{ForBytes}
-use Rattle.ffs_volume.specs.{declared.Layout.Layout, Encodings.Kinds.kind_at, Directories.Parents.graph_of}
+use Rattle.ffs_volume.specs.{declared.Layout.Layout, Encodings.Kinds.kind_at, Directories.Naming.graph_of}
 use Rattle.ffs_volume.specs.Directories.{Roles.roled_entries, Volumes.{volume_of, volume_with}}
-use Rattle.ffs_volume.specs.{Encodings.Links.start_at, Blocks.Inodes.inodes_of, Costs.Calm.is_right_directory}
+use Rattle.ffs_volume.specs.{Encodings.Links.start_at, Blocks.Inodes.inodes_of, Costs.Calm.is_directory_of_right_shape}
 use Rattle.ffs_workspace.specs.Holds.{HoldsBlockCheck, HoldsReferences, HoldsTree}
 use Rattle.ffs_workspace.{proofs.Leaving.counts_surveyed, specs.Leaves.LeavesBlockCheck}
 use Rattle.ffs_workspace.specs.declared.workspace.Workspace.{Workspace}
@@ -72,12 +72,12 @@ on_ok_is (Err e) P Q f h = h
 -- flags of a survey of a volume
 pub volume_calm : (t : Base) (b kinds : List ℕ) (marked marks : List Bool) (parents : List ℕ) (flags : List Bool) →
     AreCalm kinds marked marks parents (dir_entries t b) (dir_right_shape t b) flags → AreCalm kinds marked marks
-    parents (roled_entries (volume_of t.layout b)) (is_right_directory (volume_of t.layout b)) flags
+    parents (roled_entries (volume_of t.layout b)) (is_directory_of_right_shape (volume_of t.layout b)) flags
 volume_calm t b kinds marked marks parents flags h d set = grind (arith, and_parts)
 
 -- flags in a workspace
 pub holds_calm : (v : Layout) (b : List ℕ) (w : Workspace) (kinds : List ℕ) (marked marks : List Bool) (parents : List
     ℕ) (flags : List Bool) → w.kinds.items ≡ kinds → w.marked.items ≡ marked → w.reached.items ≡ marks → w.parents.items
     ≡ parents → w.flags.items ≡ flags → AreCalm kinds marked marks parents (roled_entries (volume_of v b))
-    (is_right_directory (volume_of v b)) flags → FlagsOnlyCalm v b w
+    (is_directory_of_right_shape (volume_of v b)) flags → FlagsOnlyCalm v b w
 holds_calm v b w kinds marked marks parents flags k m r p f h = record { calm = rw (k, m, r, p, f) h }

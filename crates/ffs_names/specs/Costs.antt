@@ -6,7 +6,7 @@ use Rattle.ffs_volume.specs.declared.{Class.Class, Inode.Inode, Layout.Layout, S
 use Rattle.ffs_volume.specs.{Blocks.{Inodes.class_of}, Directories.{Roles.roled_chunk}}
 use Rattle.ffs_volume.specs.{Directories.{Roles.roled_entries, Volumes.volume_of}}
 use Rattle.ffs_volume.specs.{Report.Reads.sweep_reads}
-use Rattle.ffs_volume.specs.Costs.DirectoryReads.{sweep_cost, sweep_costs}
+use Rattle.ffs_volume.specs.Costs.DirectoryReads.{noted_directory_cost, noted_directories_cost}
 use Rattle.ffs_layout.specs.declared.geometry.Geometry.{Geometry}
 use Rattle.ffs_walk.specs.{Counts.{AreHeld, entered, unread}, declared.{blocks.Blocks.Blocks, window.Window.Window}}
 use Rattle.ffs_names.specs.{Readings.{rest, runs_after, runs_left}}
@@ -73,11 +73,11 @@ HoldsEntries blocks w r = may_read r ≡ true → HoldsReading blocks w r.chunks
 -- a call reads no more often than all directories take in a sweep, by the bytes that are known, and
 -- any image no more often than a sweep may
 pub record SweepsOnce (v : Layout) (knows : List ℕ → Type 0) (reads reads' : ℕ) : Type 0 where
-  pub each : ForBytes knows (λ b. reads' ≤ reads + sweep_costs v b)
+  pub each : ForBytes knows (λ b. reads' ≤ reads + noted_directories_cost v b)
   pub most : reads' ≤ reads + sweep_reads v
 
 -- a reading of the chunks of the directory d begins. It takes no more reads than are left of those
 -- that the directory takes
 pub record BeginsChunks (v : Layout) (b : List ℕ) (d reads reads' : ℕ) (c : Chunks) : Type 0 where
   pub chunks : flat_map roled_chunk (rest b c) ≡ roled_entries (volume_of v b) d
-  pub within : reads' + to_read b c ≤ reads + sweep_cost v b d
+  pub within : reads' + to_read b c ≤ reads + noted_directory_cost v b d

@@ -10,7 +10,7 @@ use Rattle.ffs_image.specs.declared.image.Image.{Ghosts}
 use Rattle.ffs_volume.specs.declared.{constants.TheConstants.ROOTINO, Layout.Layout}
 use Rattle.ffs_volume.specs.Directories.{Graph.is_naming_entry, Roles.{RoledEntry, roled_entries}, Volumes.volume_of}
 use Rattle.ffs_volume.specs.{Disk.Search.some_below, Encodings.Lists.bool_at, Blocks.Inodes.inodes_of}
-use Rattle.ffs_volume.specs.{Costs.DirectoryReads.{costs_below, sweep_cost}, Encodings.Places.entries_in_part}
+use Rattle.ffs_volume.specs.{Costs.DirectoryReads.{costs_below, noted_directory_cost}, Encodings.Places.entries_in_part}
 use Rattle.ffs_volume.specs.Encodings.Places.{is_due as is_to_be_read, name_in, part_in, AreNoted, IsNoted}
 use Rattle.ffs_workspace.specs.{Holds.HoldsSurvey, Ready.CanRead, declared.workspace.Windows.Windows}
 use Rattle.ffs_workspace.specs.declared.workspace.Workspace.{Workspace}
@@ -98,7 +98,7 @@ pub record NotesDirectory {T : Type 0} (v : Layout) (b : List ℕ) (p : ℕ) (ol
   pub right : NotesRight v b (roled_entries (volume_of v b) p) old.workspace.queue.items new.workspace.queue.items
   pub each : OnOk result (NotesEach v b (belongs_to old.workspace.parents.items p) (roled_entries (volume_of v b) p)
       old.workspace.queue.items new.workspace.queue.items)
-  pub counted : new.reads ≤ old.reads + sweep_cost v b p
+  pub counted : new.reads ≤ old.reads + noted_directory_cost v b p
 
 -- p is the parent of an inode with a number greater than the root's
 pub record IsParent (parents : List ℕ) (p : ℕ) : Type 0 where
@@ -113,7 +113,7 @@ has_child parents d = some_below (λ x. nat_lt ROOTINO x && (slice_index parents
 
 -- at most how many reads parents take in a sweep
 abbrev pub parents_sweep_cost : Layout → List ℕ → (parents : List ℕ) → ℕ
-parents_sweep_cost v b parents = costs_below (has_child parents) (sweep_cost v b) (inodes_of v)
+parents_sweep_cost v b parents = costs_below (has_child parents) (noted_directory_cost v b) (inodes_of v)
 
 -- a word for each inode: no place is noted, no number below the root's is to be read, the parent of each
 -- reached inode with a number greater than the root's is to be read, and only parents are

@@ -4,7 +4,7 @@ use Rattle.std.specs.{Prelude.length, Borrow.GName}
 use Rattle.ffs_image.specs.Device.{Device}
 use Rattle.ffs_volume.specs.{declared.Layout.Layout, Directories.Roles.{RoledEntry, is_dir, roled_entries}}
 use Rattle.ffs_volume.specs.{Directories.Volumes.volume_of, Encodings.{Kinds.kind_at, Notes.note_at}}
-use Rattle.ffs_volume.specs.{Blocks.Inodes.inodes_of, Costs.Calm.is_right_directory}
+use Rattle.ffs_volume.specs.{Blocks.Inodes.inodes_of, Costs.Calm.is_directory_of_right_shape}
 use Rattle.ffs_workspace.specs.{Tables.IsTableOf, declared.workspace.Windows.Windows}
 use Rattle.ffs_walk.specs.Windows.{BlocksHold, WindowHolds}
 
@@ -30,7 +30,7 @@ dir_entries t b dir = if is_dir (volume_of t.layout b) dir then roled_entries (v
 
 -- a number is that of a directory of right shape
 abbrev pub dir_right_shape : Base → List ℕ → ℕ → Bool
-dir_right_shape t b = is_right_directory (volume_of t.layout b)
+dir_right_shape t b = is_directory_of_right_shape (volume_of t.layout b)
 
 -- the windows have room, and hold what the image gives; its lists have an entry for each inode
 pub record IsReaderReady (v : Layout) (d : Device) (windows : Windows) (kinds notes : List ℕ) : Type 0 where

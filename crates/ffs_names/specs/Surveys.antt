@@ -4,10 +4,10 @@ use Rattle.ffs_workspace.specs.Moments.{WorkMoment}
 use Rattle.ffs_image.specs.{Device.Device, Reads.ReadAfter, declared.image.ImageFault.ImageFault}
 use Rattle.ffs_volume.specs.{declared.Layout.Layout, Directories.{Roles.roled_entries, Volumes.volume_of}}
 use Rattle.ffs_survey.specs.Calm.{AreCalm}
-use Rattle.ffs_volume.specs.{Costs.Calm.is_right_directory, Encodings.Lists.bool_at}
+use Rattle.ffs_volume.specs.{Costs.Calm.is_directory_of_right_shape, Encodings.Lists.bool_at}
 use Rattle.ffs_workspace.specs.{declared.workspace.Workspace.Workspace, Leaves.LeavesBlockCheck, Ready.IsReady}
 use Rattle.ffs_workspace.specs.Holds.{HoldsBlockCheck, HoldsReferences, HoldsSurvey}
-use Rattle.ffs_volume.specs.Costs.DirectoryReads.{sweep_costs}
+use Rattle.ffs_volume.specs.Costs.DirectoryReads.{noted_directories_cost}
 use Rattle.ffs_names.specs.{CalmDirs.FlagsEachCalm}
 
 -- what a survey leaves: the workspace is ready for the next call, `queue` is zero, so that it notes no
@@ -32,7 +32,7 @@ pub record SurveysNoMore (reads reads' : ℕ) (old new : Workspace) : Type 0 whe
 -- flag (`FlagsEachCalm`)
 pub record FlagsOnlyCalm (v : Layout) (b : List ℕ) (w : Workspace) : Type 0 where
   pub calm : AreCalm w.kinds.items w.marked.items w.reached.items w.parents.items (roled_entries (volume_of v b))
-      (is_right_directory (volume_of v b)) w.flags.items
+      (is_directory_of_right_shape (volume_of v b)) w.flags.items
 
 -- what a survey finds is held: also how often each inode is referred to, counted once. It counts as made, and
 -- the claims are held still, so that another survey finds the same; and only calm directories have a flag
@@ -49,4 +49,4 @@ pub record SurveysAll {T : Type 0} (v : Layout) (b : List ℕ) (old new : WorkMo
     : Type 0 where
   pub found : OnOk result (IsSurveyed v b new.workspace)
   pub flags : OnOk result (FlagsEachCalm v b new.workspace)
-  pub counted : new.reads ≤ old.reads + sweep_costs v b
+  pub counted : new.reads ≤ old.reads + noted_directories_cost v b

@@ -7,7 +7,7 @@ ghost use Rattle.ffs_image.specs.{Device.ForContents, Known.ForBytes};
 ghost use Rattle.ffs_layout.specs.Entry.{entry_value};
 ghost use Rattle.ffs_volume.specs.Directories.{Entries.entries_of, Roles.{is_dir, role_of as role_in, roled_chunk}};
 ghost use Rattle.ffs_volume.specs.{Directories.{Roles.roled_from, Volumes.volume_of}, Encodings.Notes.note_at};
-ghost use Rattle.ffs_volume.specs.Costs.DirectoryReads.{sweep_cost};
+ghost use Rattle.ffs_volume.specs.Costs.DirectoryReads.{noted_directory_cost};
 ghost use Rattle.ffs_workspace.specs.{Found.{WithClaims, WithSurvey}, Holds.HoldsSurvey, Ready.CanRead};
 ghost use Rattle.ffs_workspace.specs.Tables.{CanReadInode, TableAfter};
 ghost use Rattle.ffs_names.specs.Noting.{chunk_noting, belongs_to, BeginsNotes, CanNote, CanNoteChunks};
@@ -145,7 +145,7 @@ fn chunks_of<I: Image>(
         → is_dir (volume_of geometry.now.layout b) dir ≡ true → MatchResult result
         (BeginsChunks geometry.now.layout b dir (I.reads image.old) (I.reads image.new))
         (λ _. I.reads image.new
-        ≤ I.reads image.old + sweep_cost geometry.now.layout b dir)) }
+        ≤ I.reads image.old + noted_directory_cost geometry.now.layout b dir)) }
     ensures begins { IfOk result (BeginsReads geometry.now) }
     ensures leaves { TableAfter geometry.now.layout (I.device image.old) (I.device image.new)
         table.new result }

@@ -32,7 +32,7 @@ impl<I: Image> Directories for DirectoryReader<'_, I> {
     ghost use Rattle.ffs_names.specs.Shapes.{has_right_shape, HasEnded};
     ghost use Rattle.ffs_names.specs.Entering.{to_come, most_to_come, last_name};
     ghost use Rattle.ffs_names.specs.Costs.{reads_for_entries, HoldsEntries};
-    ghost use Rattle.ffs_volume.specs.Costs.DirectoryReads.{sweep_cost};
+    ghost use Rattle.ffs_volume.specs.Costs.DirectoryReads.{noted_directory_cost};
 
     ghost Base = { ReaderBase };
 
@@ -58,7 +58,7 @@ impl<I: Image> Directories for DirectoryReader<'_, I> {
 
     ghost reads = { λ t. I.reads t.image.now };
 
-    ghost cost = { λ t b dir. sweep_cost t.layout b dir };
+    ghost cost = { λ t b dir. noted_directory_cost t.layout b dir };
 
     ghost to_read = { λ t b. reads_for_entries b t.entries };
 

@@ -8,7 +8,8 @@ use Rattle.ffs_pathnames.specs.{Examines.{IsExamined, LeavesAllButDue, StampsOwn
 use Rattle.ffs_pathnames.specs.{Begins.IsDirectoryBegun, PassedRight.RemembersBefore, PassedNames.PassedNames}
 use Rattle.ffs_pathnames.specs.PassedNames.{are_quiet, entries_reported, after_entries}
 use Rattle.ffs_volume.specs.{declared.Layout.Layout, Blocks.Inodes.inode_of, Directories.{Entries.Entry, Graph.parent}}
-use Rattle.ffs_volume.specs.Directories.{Parents.graph_of, Paths.dir_path, PathnameCheck.{attributes, attributes_of, sized_dir_lines}}
+use Rattle.ffs_volume.specs.Directories.{Naming.graph_of, Paths.dir_path, PathnameCheck.{attributes, attributes_of}}
+use Rattle.ffs_volume.specs.Directories.PathnameCheck.{sized_dir_lines}
 use Rattle.ffs_volume.specs.Directories.PathnameCheck.{lines_of_entries, dir_header_lines, header_defects, header_lines}
 use Rattle.ffs_volume.specs.Directories.{Roles.{Volume, is_dir, roled_entries, start_entry}, Volumes.volume_of}
 use Rattle.ffs_volume.specs.{Directories.Volumes.volume_with, Messages.Kinds.{Message, TreeMessage, of_tree}}

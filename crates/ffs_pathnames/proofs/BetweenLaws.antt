@@ -9,7 +9,7 @@ use Rattle.ffs_pathnames.{proofs.LookLaws.suspects_flagged, specs.PassedNames.{P
 use Rattle.ffs_pathnames.specs.PassedNames.{is_flagged, after_roled, after_entries, belongs, after_look, after_looks}
 use Rattle.ffs_pathnames.specs.{PassedNames.are_quiet, PassedRight.{RemembersWithin, RemembersBefore}}
 use Rattle.ffs_volume.specs.Directories.Roles.{Volume, RoledEntry, is_dir, is_suspect, roled_entries}
-use Rattle.ffs_volume.specs.Directories.{Parents.graph_of, Graph.{is_naming_entry, is_naming_dir, parent}}
+use Rattle.ffs_volume.specs.Directories.{Naming.graph_of, Graph.{is_naming_entry, is_naming_dir, parent}}
 use Rattle.ffs_volume.proofs.{ClimbLaws.is_value-true, SearchLaws.some_below-suc}
 
 -- the parent of a directory names it

@@ -5,7 +5,7 @@ use Rattle.std.proofs.lemmas.{Bool.{both_ways, cases_Bool, true_from_ne_false, D
 use Rattle.ffs_volume.specs.{declared.Layout.Layout, Encodings.Lists.bool_at, Directories.PathnameCheck.is_sized_dir}
 use Rattle.ffs_volume.specs.Directories.{Roles.{RoledEntry, Volume}, Volumes.volume_of}
 use Rattle.ffs_volume.{proofs.SearchLaws.some_below-from, specs.Costs.Calm.is_calm_directory}
-use Rattle.ffs_volume.specs.Costs.DirectoryReads.{directory_cost, sweep_costs, is_looked_at, places_cost, costs_below}
+use Rattle.ffs_volume.specs.Costs.DirectoryReads.{directory_cost, noted_directories_cost, is_looked_at, places_cost, costs_below}
 use Rattle.ffs_workspace.specs.{declared.workspace.Workspace.Workspace, Holds.HoldsBlockCheck, Leaves.LeavesBlockCheck}
 use Rattle.ffs_names.specs.CalmDirs.{FlagsEachCalm}
 use Rattle.ffs_pathnames.specs.{Before.{IsNonePassed, needs_check}, ChecksNeeded.{ChecksLookedAt, KeepsFlags}}
@@ -60,7 +60,7 @@ look_next v b w d lines reads reads' checks none most = elim (cases_Bool (is_loo
 
 -- where one needs a check, places are noted
 pub places_noted : (v : Layout) (b : List ℕ) (w : Workspace) (d : ℕ) → ChecksLookedAt v b w → d < v.ncg * v.ipg →
-    needs_check w d ≡ true → places_cost v b ≡ sweep_costs v b
+    needs_check w d ≡ true → places_cost v b ≡ noted_directories_cost v b
 places_noted v b w d checks inside needs =
     let looked : is_looked_at v b d ≡ true =
     true_from_ne_false (is_looked_at v b d) (λ no. both_ways (needs_check w d) (checks d no) needs) in

@@ -3,7 +3,7 @@ use Rattle.std.proofs.{lemmas.Bool.{and_parts, Decides.nat_tests}, Common.{◌�
 use Rattle.std.proofs.Common.{false, not, ◌&&◌, List, [], arith}
 use Rattle.ffs_volume.specs.{declared.Layout.Layout, Laws.Geometry.IsAcceptedLayout, Blocks.Inodes.inode_of}
 use Rattle.ffs_volume.{specs.{Blocks.KeptSteps.kept_steps_of, Directories.Graph.is_naming_dir}, proofs.Sizes.no_steps}
-use Rattle.ffs_volume.specs.Directories.{Roles.{is_dir, roled_entries}, Parents.graph_of, PathnameCheck.is_sized_dir}
+use Rattle.ffs_volume.specs.Directories.{Roles.{is_dir, roled_entries}, Naming.graph_of, PathnameCheck.is_sized_dir}
 use Rattle.ffs_volume.specs.{Directories.Volumes.{volume_with, volume_of, kept_steps_of_inode}, Encodings.Kinds.kind_at}
 use Rattle.ffs_volume.specs.Encodings.Kinds.{is_dir_kind, is_empty_dir_kind}
 use Rattle.ffs_workspace.proofs.KindLaws.{dir_is, empty_is}

@@ -2,7 +2,7 @@
 use Rattle.std.proofs.{lemmas.Bool.{Decides.nat_tests, and_parts, cond-false, cond-true}, Common.{◌≡◌, ◌≢◌, ap, refl, sym}}
 use Rattle.std.proofs.Common.{◌∙◌, ℕ, ◌==◌, Bool, true, false, List, ◌∷◌, Option, None, Some, arith, ne_eqb, eq-eqb}
 use Rattle.std.{proofs.Math.Nat.zero-add, specs.Option.unwrap_or}
-use Rattle.ffs_volume.specs.{Directories.{Roles.{Volume, nth_entry}, Parents.graph_of}, declared.Order.Order}
+use Rattle.ffs_volume.specs.{Directories.{Roles.{Volume, nth_entry}, Naming.graph_of}, declared.Order.Order}
 use Rattle.ffs_volume.specs.Directories.{Entries.{Entry, entry_at, entries_of, entries_from}, Graph.{Graph, edge}}
 use Rattle.ffs_volume.{specs.Directories.Graph.{level, parent, parent_by}, proofs.SearchLaws.first_below-some}
 use Rattle.ffs_volume.proofs.Reading.{entries_next, entries_end}

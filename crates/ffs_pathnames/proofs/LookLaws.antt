@@ -7,7 +7,7 @@ use Rattle.std.specs.List.{list_any, slice_index_or}
 use Rattle.ffs_volume.specs.{declared.Role.{Role, TheVariants.{Extra, Plain}}, Disk.Search.some_below}
 use Rattle.ffs_volume.specs.Directories.{Entries.Entry, PathnameCheck.{entry_lines, is_silent, lines_of_entries}}
 use Rattle.ffs_volume.specs.Directories.PathnameCheck.{plain_verdict, verdict_on}
-use Rattle.ffs_volume.specs.Directories.{PathnameCheck.{is_role_silent, role_lines}, Climb.is_value, Parents.graph_of}
+use Rattle.ffs_volume.specs.Directories.{PathnameCheck.{is_role_silent, role_lines}, Climb.is_value, Naming.graph_of}
 use Rattle.ffs_volume.specs.Directories.Graph.{is_naming_entry, is_naming_dir, parent}
 use Rattle.ffs_volume.specs.Directories.Roles.{Volume, RoledEntry, is_dir, is_plain, is_suspect, roled_entries}
 use Rattle.ffs_volume.proofs.{RoleLaws.plain-true, VerdictLaws.{silent_lines, silent_parts, silent_of}}

@@ -8,8 +8,8 @@ use Rattle.ffs_volume.{proofs.RoleLaws.plain-true, specs.{declared.Role.TheVaria
 use Rattle.ffs_volume.specs.Directories.PathnameCheck.{plain_verdict, entry_lines, lines_of_entries}
 use Rattle.ffs_volume.specs.Directories.PathnameCheck.{is_first_of_suspect, is_extraneous, defects_on}
 use Rattle.ffs_volume.specs.Directories.Roles.{Volume, RoledEntry, is_dir, is_plain, roled_entries}
-use Rattle.ffs_volume.specs.Directories.{Graph.{is_naming_entry, is_naming_dir, parent, first_index}, Parents.graph_of}
-use Rattle.ffs_volume.specs.{Directories.Parents.{is_first_naming_entry, is_parent_entry}, Disk.Search.some_below}
+use Rattle.ffs_volume.specs.Directories.{Graph.{is_naming_entry, is_naming_dir, parent, first_index}, Naming.graph_of}
+use Rattle.ffs_volume.specs.{Directories.Naming.{is_first_naming_entry, is_parent_entry}, Disk.Search.some_below}
 use Rattle.ffs_volume.{specs.Disk.Search.first_below, proofs.SearchLaws.first_below-tells}
 use Rattle.ffs_pathnames.specs.PassedNames.{PassedNames, is_flagged, is_flagged_calm, is_stamped, after_name, after_roled}
 use Rattle.ffs_pathnames.specs.PassedNames.{verdict_at_reading, roled_reported, entries_reported}

@@ -8,7 +8,7 @@ use Rattle.std.specs.List.{flat_map, find}
 use Rattle.ffs_volume.specs.declared.{Layout.Layout, Order.Order, Step.{Step, TheVariants.Run}, Role.Role}
 use Rattle.ffs_volume.specs.{declared.Role.TheVariants.{Extra, Plain}, Laws.Geometry.IsAcceptedLayout}
 use Rattle.ffs_volume.specs.{Disk.Areas.is_run_in_range, Blocks.{Steps.steps_of, Inodes.{is_allocated, is_unknown}}}
-use Rattle.ffs_volume.specs.{Blocks.Inodes.inode_of, Directories.{Graph.{is_naming_entry, parent}, Parents.graph_of}}
+use Rattle.ffs_volume.specs.{Blocks.Inodes.inode_of, Directories.{Graph.{is_naming_entry, parent}, Naming.graph_of}}
 use Rattle.ffs_volume.specs.Directories.Entries.{Entry, Chunk, ChunkSource, chunk_of, chunks_of, run_chunks}
 use Rattle.ffs_volume.specs.Directories.Entries.{step_chunks, entries_of, is_sound, is_live, bytes_read}
 use Rattle.ffs_volume.specs.Directories.{Volumes.{volume_of, volume_with}, PathnameCheck.is_bad_whiteout}

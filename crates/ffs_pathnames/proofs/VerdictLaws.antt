@@ -1,6 +1,6 @@
 -- What is gathered for a verdict suffices.
 use Rattle.std.proofs.Common.{◌≡◌, refl, ℕ, true, List, arith}
-use Rattle.ffs_volume.specs.{declared.Attr.Attr, Directories.{Roles.Volume, Parents.graph_of}}
+use Rattle.ffs_volume.specs.{declared.Attr.Attr, Directories.{Roles.Volume, Naming.graph_of}}
 use Rattle.ffs_volume.specs.declared.verdict.Verdict.{Verdict, TheVariants.{Whiteout, Unallocated, Named}}
 use Rattle.ffs_volume.specs.Directories.{PathnameCheck.attributes, Paths.{dir_path, entry_path}}
 use Rattle.ffs_pathnames.specs.Gathers.{IsEnough, asks_attr, asks_path}

@@ -3,7 +3,7 @@ use Rattle.std.specs.Prelude.{◌≡◌, ℕ, true, IsTrue, List, Option, Some}
 use Rattle.ffs_image.specs.Device.{Device}
 use Rattle.ffs_image.specs.Known.{ForBytes, IsContents}
 use Rattle.ffs_volume.specs.{declared.Layout.Layout, Blocks.Inodes.inode_of, Directories.Graph.Graph}
-use Rattle.ffs_volume.specs.{Directories.{Parents.graph_of, Roles.is_dir, Volumes.volume_of}, Encodings.Places.AreNoted}
+use Rattle.ffs_volume.specs.{Directories.{Naming.graph_of, Roles.is_dir, Volumes.volume_of}, Encodings.Places.AreNoted}
 use Rattle.ffs_workspace.specs.{declared.workspace.Workspace.Workspace, Holds.{HoldsBlockCheck, HoldsSurvey}}
 use Rattle.ffs_paths.specs.DirectoryPaths.{IsPathOf}
 use Rattle.ffs_pathnames.specs.declared.look.Directory.{Directory}

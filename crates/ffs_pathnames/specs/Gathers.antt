@@ -6,7 +6,7 @@ use Rattle.ffs_image.specs.{Device.ForContents, declared.image.{Image.Ghosts, Im
 use Rattle.ffs_volume.specs.{Messages.Kinds.TreeMessage, Directories.{Volumes.volume_of, Entries.Entry}}
 use Rattle.ffs_volume.specs.declared.{Attr.Attr, Layout.Layout, verdict.Verdict.{Verdict, TheVariants.Named}}
 use Rattle.ffs_volume.specs.declared.verdict.Verdict.TheVariants.{OutOfRange, BadWhiteout, Whiteout, Unallocated}
-use Rattle.ffs_volume.specs.Directories.{Parents.graph_of, Paths.{dir_path, entry_path}, Roles.{Volume, RoledEntry}}
+use Rattle.ffs_volume.specs.Directories.{Naming.graph_of, Paths.{dir_path, entry_path}, Roles.{Volume, RoledEntry}}
 use Rattle.ffs_volume.specs.Directories.PathnameCheck.{attributes, extra_lines, plain_lines, verdict_lines}
 use Rattle.ffs_volume.specs.Report.Reads.{line_reads, path_reads}
 use Rattle.ffs_layout.specs.Entry.{entry_value}

@@ -6,7 +6,7 @@ use Rattle.ffs_volume.specs.{declared.{Layout.Layout, Order.Order}, Blocks.Inode
 use Rattle.ffs_volume.specs.declared.verdict.{HeaderDefects.HeaderDefects, DotDefects.{DotDefects, TheVariants.Missing}}
 use Rattle.ffs_volume.specs.declared.verdict.DotDefects.TheVariants.{Other, Found}
 use Rattle.ffs_volume.specs.Directories.{PathnameCheck.{attributes, attributes_of, header_defects, header_lines}}
-use Rattle.ffs_volume.specs.Directories.{Entries.Entry, Parents.graph_of, Paths.dir_path, Roles.{Volume, nth_entry}}
+use Rattle.ffs_volume.specs.Directories.{Entries.Entry, Naming.graph_of, Paths.dir_path, Roles.{Volume, nth_entry}}
 use Rattle.ffs_volume.specs.Messages.Kinds.{TreeMessage}
 use Rattle.ffs_layout.specs.Entry.{entry_value}
 use Rattle.ffs_workspace.specs.declared.workspace.Workspace.{Workspace}

@@ -3,7 +3,7 @@ use Rattle.std.specs.Prelude.{ℕ, ◌==◌, Bool, true, false, not, ◌&&◌, n
 use Rattle.std.specs.{Prelude.{slice_index, slice_set}, List.slice_index_or}
 use Rattle.ffs_volume.specs.{declared.{constants.TheConstants.ROOTINO, verdict.Verdict.Verdict}}
 use Rattle.ffs_volume.specs.{Messages.Kinds.TreeMessage, Directories.{Entries.Entry, Climb.is_value, Graph.parent}}
-use Rattle.ffs_volume.specs.Directories.{Parents.graph_of, Roles.{Volume, RoledEntry, is_dir, is_suspect, is_plain}}
+use Rattle.ffs_volume.specs.Directories.{Naming.graph_of, Roles.{Volume, RoledEntry, is_dir, is_suspect, is_plain}}
 use Rattle.ffs_volume.specs.Directories.{Roles.roled_entries, PathnameCheck.{is_role_silent, role_lines, verdict_on}}
 
 -- `flags`: of a suspect inode, whether a plain entry has named it; of any other, whether it is

@@ -2,7 +2,7 @@
 use Rattle.std.specs.{Prelude.{◌≡◌, ◌≢◌, ℕ, ◌<◌, true, not, ◌&&◌, ◌||◌, List, length, slice_index}, List.list_any}
 use Rattle.ffs_volume.specs.{declared.constants.TheConstants.{WINO, ROOTINO}, Disk.Search.some_below}
 use Rattle.ffs_volume.specs.Directories.{Graph.{is_naming_entry, is_naming_dir}, Roles.{Volume, RoledEntry, is_suspect}}
-use Rattle.ffs_volume.specs.Directories.Parents.{graph_of}
+use Rattle.ffs_volume.specs.Directories.Naming.{graph_of}
 use Rattle.ffs_pathnames.specs.{Silent.IsSilentDirectory, PassedNames.{PassedNames, is_flagged, is_flagged_calm, is_stamped}}
 use Rattle.ffs_pathnames.specs.PassedNames.{belongs}
 

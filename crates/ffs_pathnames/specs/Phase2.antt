@@ -3,7 +3,7 @@ use Rattle.std.specs.Prelude.{◌≡◌, ◌⊎◌, ◌≤◌, ◌+◌, ◌*◌,
 use Rattle.ffs_image.specs.Device.{Device}
 use Rattle.ffs_volume.specs.{declared.Layout.Layout, Directories.PathnameCheck.{continues_after_root, pathname_lines}}
 use Rattle.ffs_volume.specs.{Directories.Volumes.volume_of, Messages.Kinds.{phase2}, Report.Reads.line_reads}
-use Rattle.ffs_volume.specs.{Report.Reads.pathname_reads, Costs.DirectoryReads.{directories_cost, sweep_costs}}
+use Rattle.ffs_volume.specs.{Report.Reads.pathname_reads, Costs.DirectoryReads.{directories_cost, noted_directories_cost}}
 use Rattle.ffs_volume.specs.Costs.DirectoryReads.{phase2_cost}
 use Rattle.ffs_volume.specs.Report.Whole.{phase2_messages}
 use Rattle.ffs_report.specs.{Progress.{Progress, Said}, declared.fault.RunFault.RunFault}
@@ -45,4 +45,4 @@ pub record Phase2Reads (v : Layout) (d : Device) (w : Workspace) (before after :
   pub surveyed_before : w.surveyed ≡ true → ForBytes (WithClaims v d w) (λ bytes.
       after ≤ before + (3 * directories_cost v bytes + line_reads * length (pathname_lines (volume_of v bytes))))
   pub stopped : ForBytes (WithClaims v d w) (λ bytes. continues_after_root (volume_of v bytes) ≡ false
-      → after ≤ before + sweep_costs v bytes)
+      → after ≤ before + noted_directories_cost v bytes)

@@ -4,7 +4,7 @@ use Rattle.ffs_volume.specs.Directories.{Entries.Entry, PathnameCheck.{is_silent
 use Rattle.ffs_volume.specs.{Blocks.Inodes.{is_allocated, is_unknown}, Encodings.Kinds.{class_of_kind, is_dir_kind}}
 use Rattle.ffs_volume.specs.Encodings.Kinds.{is_allocated_kind, is_unknown_kind, type_of_kind}
 use Rattle.ffs_volume.specs.Directories.{Roles.{Volume, is_dir, is_suspect}, Climb.is_value, Graph.parent}
-use Rattle.ffs_volume.specs.Directories.Parents.{graph_of}
+use Rattle.ffs_volume.specs.Directories.Naming.{graph_of}
 use Rattle.ffs_workspace.specs.Holds.{bool_at}
 use Rattle.ffs_survey.specs.Survey.{suspect_at}
 use Rattle.ffs_pathnames.specs.{declared.inodes.Inodes.Inodes, PassedNames.PassedNames, Stamps.stamps_of}

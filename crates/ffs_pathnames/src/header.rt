@@ -2,7 +2,7 @@
 ghost use Rattle.std.specs.Prelude.{◌≡◌, ◌<◌, ℕ, vec_len, List, option_map};
 ghost use Rattle.ffs_volume.specs.Directories.PathnameCheck.{dot_defects, dotdot_defects, has_partial_chunk, is_wrong_parent};
 ghost use Rattle.ffs_volume.specs.Directories.PathnameCheck.{chunk_lines, dot_lines, dotdot_lines, dots_lines, header_lines, size_lines};
-ghost use Rattle.ffs_volume.specs.{declared.Layout.Layout, Directories.{Parents.graph_of, Volumes.volume_of}};
+ghost use Rattle.ffs_volume.specs.{declared.Layout.Layout, Directories.{Naming.graph_of, Volumes.volume_of}};
 ghost use Rattle.ffs_layout.specs.Entry.{entry_value};
 ghost use Rattle.ffs_workspace.specs.Holds.{HoldsSurvey};
 ghost use Rattle.ffs_report.specs.Progress.{progress};

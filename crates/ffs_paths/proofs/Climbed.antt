@@ -3,7 +3,7 @@ use Rattle.std.proofs.Common.{◌≡◌, ◌≢◌, ℕ, zero, suc, ◌+◌, ◌
 use Rattle.std.proofs.{Common.{arith, Option, Result, sym, ◌∙◌, true}}
 use Rattle.ffs_workspace.specs.Moments.{WorkMoment}
 use Rattle.ffs_image.specs.declared.image.ImageFault.{ImageFault}
-use Rattle.ffs_volume.specs.Directories.{Graph.{Graph, level}, Paths.joined, Parents.graph_of, Volumes.volume_of}
+use Rattle.ffs_volume.specs.Directories.{Graph.{Graph, level}, Paths.joined, Naming.graph_of, Volumes.volume_of}
 use Rattle.ffs_volume.{specs.{declared.Layout.Layout, Encodings.Places.IsNoted}, proofs.LevelLaws.reached-level}
 use Rattle.ffs_survey.proofs.ParentLaws.{root_level}
 use Rattle.ffs_workspace.specs.{Found.WithSurvey, Holds.{bool_at, HoldsSurvey}, declared.workspace.Workspace.Workspace}

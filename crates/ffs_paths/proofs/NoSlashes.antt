@@ -6,7 +6,7 @@ use Rattle.ffs_volume.specs.declared.{Layout.Layout, Order.Order, Step.{Step, Th
 use Rattle.ffs_volume.specs.{Disk.{Areas.is_run_in_range, Numbers.piece}, Directories.Entries.{Chunk, ChunkSource}}
 use Rattle.ffs_volume.specs.Directories.Entries.{chunk_of, chunks_of, entries_from, entries_with, entry_at, entry_read}
 use Rattle.ffs_volume.specs.Directories.{Entries.{is_well_formed, step_chunks}, Graph.{parent, parent_entry_index}}
-use Rattle.ffs_volume.specs.Directories.{Parents.{graph_of, nth_roled}, Paths.{names_down, names_by_parent, name_of}}
+use Rattle.ffs_volume.specs.Directories.{Naming.{graph_of, nth_roled}, Paths.{names_down, names_by_parent, name_of}}
 use Rattle.ffs_volume.specs.Directories.{Roles.{RoledEntry, roled_chunk, roled_from, roled_entries}, Volumes.volume_of}
 use Rattle.ffs_volume.specs.Directories.Volumes.{volume_with, chunk_source_of, kept_steps_of_inode}
 use Rattle.ffs_paths.specs.Slashes.{HaveNoSlash, has_slash}

@@ -3,7 +3,7 @@ use Rattle.std.proofs.Common.{◌≡◌, ◌∙◌, ◌↔◌, ◌+◌, ◌≤�
 use Rattle.std.specs.Prelude.{OnOk}
 use Rattle.ffs_workspace.specs.Moments.{WorkMoment}
 use Rattle.ffs_image.specs.declared.image.ImageFault.{ImageFault}
-use Rattle.ffs_volume.specs.{declared.Layout.Layout, Directories.{Parents.graph_of, Volumes.volume_of}}
+use Rattle.ffs_volume.specs.{declared.Layout.Layout, Directories.{Naming.graph_of, Volumes.volume_of}}
 use Rattle.ffs_workspace.specs.declared.workspace.Workspace.{Workspace}
 use Rattle.ffs_paths.specs.{Climbing.IsParentOf, Reads.{HoldsPlaceOf, KnowsPlaces, names_to, ReadsName}}
 use Rattle.ffs_paths.specs.Reads.{ReadsNames, ReadsPartOf}

@@ -3,7 +3,7 @@ use Rattle.std.proofs.Common.{◌≡◌, ◌≢◌, ℕ, zero, suc, ◌+◌, ◌
 use Rattle.std.proofs.Common.{subst, ◌∙◌, arith, append_assoc, ◌*◌, cond, length, ltb-true, unwrap_or, option_map}
 use Rattle.std.{specs.List.list_any, proofs.lemmas.Bool.{both_ways, and_parts, ne_eqb, cond-false, eq-eqb}}
 use Rattle.ffs_volume.{proofs.LevelLaws.{level-some, within-zero, reached-level}, specs.Directories.Graph.Graph}
-use Rattle.ffs_volume.specs.Directories.{Graph.{level, is_naming_entry, is_naming_dir, parent}, Parents.graph_of}
+use Rattle.ffs_volume.specs.Directories.{Graph.{level, is_naming_entry, is_naming_dir, parent}, Naming.graph_of}
 use Rattle.ffs_volume.specs.Directories.Paths.{joined, names_down, path_bytes, dir_path, dir_path_of_names, entry_path}
 use Rattle.ffs_volume.{specs.Directories.{Roles.RoledEntry}, proofs.PathBound.path_text-fits}
 use Rattle.ffs_volume.specs.{Directories.Volumes.{volume_of, volume_with}, declared.Layout.Layout}

@@ -4,7 +4,7 @@ use Rattle.std.specs.{Prelude.slice_index, Option.unwrap_or}
 use Rattle.ffs_image.specs.{Device.{Device, ForContents}, Known.IsContents, Reads.{ReadAfter, ReadsAtMostOnce}}
 use Rattle.ffs_image.specs.declared.image.ImageFault.{ImageFault}
 use Rattle.ffs_volume.specs.declared.{constants.TheConstants.MAXPATHLEN, Layout.Layout}
-use Rattle.ffs_volume.specs.Directories.{Graph.{Graph, level}, Parents.graph_of, Volumes.volume_of}
+use Rattle.ffs_volume.specs.Directories.{Graph.{Graph, level}, Naming.graph_of, Volumes.volume_of}
 use Rattle.ffs_workspace.specs.declared.workspace.Workspace.{Workspace}
 use Rattle.ffs_volume.specs.Encodings.Places.{AreNoted, IsNoted, part_size, part_in}
 use Rattle.ffs_volume.specs.Costs.DirectoryReads.{directory_cost}

@@ -7,7 +7,7 @@ use Rattle.ffs_volume.specs.declared.{Layout.Layout, Inode.Inode, Class.{Class, 
 use Rattle.ffs_volume.specs.{declared.Class.TheVariants.{File, Dir}, Blocks.Inodes.{inode_of, class_of, type_of}}
 use Rattle.ffs_volume.specs.{Blocks.Inodes.{is_directory}, Directories.Roles.Volume}
 use Rattle.ffs_volume.specs.Directories.Roles.{is_dir, is_suspect, references, references_below}
-use Rattle.ffs_volume.specs.Directories.{Volumes.{class_at, marked_at, volume_of, volume_with}, Parents.graph_of}
+use Rattle.ffs_volume.specs.Directories.{Volumes.{class_at, marked_at, volume_of, volume_with}, Naming.graph_of}
 use Rattle.ffs_volume.specs.Encodings.Kinds.{kind_of}
 use Rattle.ffs_survey.specs.Survey.{bool_at, number_at, is_dir_kind, suspect_at, counted_below, references_to}
 use Rattle.ffs_volume.specs.Encodings.Kinds.{is_dir_at}

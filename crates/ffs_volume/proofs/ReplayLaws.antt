@@ -27,26 +27,26 @@ offers_runs v s fs = (offers_keep v s fs).runs_is
 run_runs : (v : Layout) (s : Claims) (start len : ℕ) → (after_run v s start len).runs ≡ s.runs + 1
 run_runs v s start len = grind (arith, offers_runs)
 
-step_runs : (v : Layout) (s : Claims) (step : Step) (steps : List Step) → s.dup_offers ≤ s.kept
+run_offers_of_step : (v : Layout) (s : Claims) (step : Step) (steps : List Step) → s.dup_offers ≤ s.kept
     → (after_step v s step).runs ≡ s.runs + seen_run (cut_of (after_steps v s (step ∷ steps))) (replay_of s) step
-step_runs v s Gap steps few = omega arith
-step_runs v s Tail steps few = grind arith
-step_runs v s (Run start len block) steps few =
+run_offers_of_step v s Gap steps few = omega arith
+run_offers_of_step v s Tail steps few = grind arith
+run_offers_of_step v s (Run start len block) steps few =
     let seen = seen_replays v s (Run start len block ∷ steps) few in grind (arith, run_runs)
 
-steps_runs : (v : Layout) (s : Claims) (steps : List Step) → s.dup_offers ≤ s.kept
+run_offers_of_steps : (v : Layout) (s : Claims) (steps : List Step) → s.dup_offers ≤ s.kept
     → (after_steps v s steps).runs ≡ s.runs + replayed_runs v (cut_of (after_steps v s steps)) (replay_of s) steps
-steps_runs v s [] few = omega arith
-steps_runs v s (step ∷ steps) few =
-    let more = steps_runs v (after_step v s step) steps (step_few v s step few) in
-    grind (arith, step_runs, step_replays)
+run_offers_of_steps v s [] few = omega arith
+run_offers_of_steps v s (step ∷ steps) few =
+    let more = run_offers_of_steps v (after_step v s step) steps (step_few v s step few) in
+    grind (arith, run_offers_of_step, step_replays)
 
 -- an inode's Runs that are seen are those of the replay
 pub replay_is_runs : (v : Layout) (s : Claims) (steps : List Step)
     → (after_steps v (at_next_inode s) steps).runs ≡ s.runs + replayed_runs v (cut_of (after_steps v (at_next_inode s)
     steps))
     fresh_replay steps
-replay_is_runs v s steps = steps_runs v (at_next_inode s) steps (omega arith)
+replay_is_runs v s steps = run_offers_of_steps v (at_next_inode s) steps (omega arith)
 
 -- what a step does to two replays without a cut that saw as many bad Runs
 record Alike (v : Layout) (i : ℕ) (r q : Replay) (step : Step) : Type 0 where

@@ -1,7 +1,7 @@
 -- What is not reached, and what is lost.
 use Rattle.std.proofs.{Common.{◌≡◌, ◌≢◌, ℕ, Bool, true, false, None, ne_eqb, arith}, lemmas.Bool.Decides.nat_tests}
 use Rattle.ffs_volume.{proofs.SearchLaws.is_some-none, specs.{Disk.Search.first_below, Directories.Graph.Graph}}
-use Rattle.ffs_volume.specs.Directories.{Graph.{level, edge, reached, parent}, Connectivity.{is_lost, is_dead_in}}
+use Rattle.ffs_volume.specs.Directories.{Graph.{level, edge, reached, parent}, Connectivity.{is_lost_in, is_dead_in}}
 
 pub edge-parts : (v : Graph) (s d : ℕ) → edge v s d ≡ true → (v.is_dir d ≡ true) × (v.is_dir s ≡ true)
 edge-parts v s d h = grind arith
@@ -13,10 +13,10 @@ pub record IsLost (v : Graph) (suspect : ℕ → Bool) (d : ℕ) : Type 0 where
   pub unreached : reached v d ≡ false
   pub alive : is_dead_in v suspect d ≡ false
 
-pub lost-true : (v : Graph) (suspect : ℕ → Bool) (d : ℕ) → is_lost v suspect d ≡ true → IsLost v suspect d
+pub lost-true : (v : Graph) (suspect : ℕ → Bool) (d : ℕ) → is_lost_in v suspect d ≡ true → IsLost v suspect d
 lost-true v suspect d h = grind (arith, nat_tests)
 
-pub lost-from : (v : Graph) (suspect : ℕ → Bool) (d : ℕ) → IsLost v suspect d → is_lost v suspect d ≡ true
+pub lost-from : (v : Graph) (suspect : ℕ → Bool) (d : ℕ) → IsLost v suspect d → is_lost_in v suspect d ≡ true
 lost-from v suspect d h = rw (h.alive, h.dir, ne_eqb d 2 h.not_root, h.unreached)
 
 pub unreached-level : (v : Graph) (d : ℕ) → reached v d ≡ false → level v d ≡ None

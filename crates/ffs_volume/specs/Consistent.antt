@@ -1,4 +1,5 @@
--- Consistency: of blocks, of directories, and of the whole volume (`IsConsistent`).
+-- Consistency: of blocks, of directories, of groups, and of the whole volume (`IsConsistent`).
 pub mod BlocksRight
 pub mod DirectoriesRight
+pub mod GroupsRight
 pub mod Volume

@@ -10,7 +10,7 @@ pub mod Entries
 pub mod Roles
 pub mod Climb
 pub mod Graph
-pub mod Parents
+pub mod Naming
 pub mod Paths
 pub mod PathnameCheck
 pub mod Connectivity

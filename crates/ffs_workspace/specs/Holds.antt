@@ -3,7 +3,7 @@ use Rattle.std.specs.Prelude.{◌≡◌, ◌==◌, ◌<◌, ◌+◌, ℕ, Bool, 
 use Rattle.std.specs.Option.{unwrap_or}
 use Rattle.ffs_volume.specs.Blocks.{BlockCheck.set_count, Claims.{Claims, all_claims}, Inodes.inodes_of}
 use Rattle.ffs_volume.specs.declared.Layout.{Layout}
-use Rattle.ffs_volume.specs.Directories.{Graph.{is_named, reached, parent}, Roles.references, Parents.graph_of}
+use Rattle.ffs_volume.specs.Directories.{Graph.{is_named, reached, parent}, Roles.references, Naming.graph_of}
 use Rattle.ffs_volume.specs.{Directories.Volumes.{marked_at, marked_by_phase1_at, volume_of}, Encodings.Kinds.kind_at}
 use Rattle.ffs_volume.specs.Encodings.{Links.start_at, Places.AreParts, Notes.note_at}
 use Rattle.ffs_workspace.specs.declared.workspace.Workspace.{Workspace}

@@ -86,18 +86,18 @@ after_first left [] = left
 after_first left (o ∷ os) = after_first (if is_set left o.fragment then slice_set left o.fragment false else left) os
 
 -- the kept offers of each Run that is seen: of a step, of steps, and of inodes
-abbrev pub step_runs : Layout → ℕ → Claims → Step → List (List Offer)
-step_runs v number s (Run start len block) = if is_open s then kept_in_run v number s start len ∷ [] else []
-step_runs v number s Tail = []
-step_runs v number s Gap = []
+abbrev pub run_offers_of_step : Layout → ℕ → Claims → Step → List (List Offer)
+run_offers_of_step v number s (Run start len block) = if is_open s then kept_in_run v number s start len ∷ [] else []
+run_offers_of_step v number s Tail = []
+run_offers_of_step v number s Gap = []
 
-abbrev pub steps_runs : Layout → ℕ → Claims → List Step → List (List Offer)
-steps_runs v number s [] = []
-steps_runs v number s (step ∷ steps) = step_runs v number s step ++ steps_runs v number (after_step v s step) steps
+abbrev pub run_offers_of_steps : Layout → ℕ → Claims → List Step → List (List Offer)
+run_offers_of_steps v number s [] = []
+run_offers_of_steps v number s (step ∷ steps) = run_offers_of_step v number s step ++ run_offers_of_steps v number (after_step v s step) steps
 
-unfoldable pub owners_runs : Layout → Claims → List Owner → List (List Offer)
-owners_runs v s [] = []
-owners_runs v s (o ∷ os) = steps_runs v o.number (at_next_inode s) o.steps ++ owners_runs v (after_owner v s o) os
+unfoldable pub run_offers_of_owners : Layout → Claims → List Owner → List (List Offer)
+run_offers_of_owners v s [] = []
+run_offers_of_owners v s (o ∷ os) = run_offers_of_steps v o.number (at_next_inode s) o.steps ++ run_offers_of_owners v (after_owner v s o) os
 
 -- how many of some Runs are looked at, by their kept offers: all up to the one that reports the
 -- last fragment with a DUP line
@@ -109,4 +109,4 @@ runs_until_reported left (kept ∷ runs) =
 -- how many Runs of an image phase 1b looks at
 unfoldable pub rescan_runs : Layout → List ℕ → ℕ
 rescan_runs v image =
-    runs_until_reported (all_claims v image).duplicates (owners_runs v (no_claims v) (owners_of v image))
+    runs_until_reported (all_claims v image).duplicates (run_offers_of_owners v (no_claims v) (owners_of v image))

@@ -27,8 +27,8 @@ abbrev pub times : (f : ℕ) (fs : List ℕ) → ℕ
 times f fs = count_by (λ g. g == f) fs
 
 -- the blocks field of a file or directory is the number of sectors of all its fragments
-abbrev pub is_field_right : Layout → Owner → Bool
-is_field_right v o = not (is_file_or_dir o.class) || o.blocks == sectors v (length (fragments_of o.steps))
+abbrev pub is_blocks_field_right : Layout → Owner → Bool
+is_blocks_field_right v o = not (is_file_or_dir o.class) || o.blocks == sectors v (length (fragments_of o.steps))
 
 -- all Runs are in range, no fragment is in two places or is reserved, there is no Tail,
 -- and each blocks field is that of the inode's fragments
@@ -37,7 +37,7 @@ pub record AreRunsRight (v : Layout) (os : List Owner) : Type 0 where
   pub no_tail : list_all is_no_tail (all_steps os) ≡ true
   pub alone : (f : ℕ) → times f (fragments_of (all_steps os)) ≤ 1
   pub unreserved : (f : ℕ) → is_reserved v f ≡ true → times f (fragments_of (all_steps os)) ≡ 0
-  pub counted : list_all (is_field_right v) os ≡ true
+  pub counted : list_all (is_blocks_field_right v) os ≡ true
 
 -- two of the conditions of `IsConsistent` together, for laws: those on classes and on Runs
 pub record BlocksRight (v : Layout) (os : List Owner) : Type 0 where

@@ -5,7 +5,7 @@ use Rattle.ffs_volume.specs.declared.constants.TheConstants.{WINO, ROOTINO, DIRB
 use Rattle.ffs_volume.specs.{declared.{Class.TheVariants.Dir, Role.TheVariants.{Extra, Plain}}, Blocks.Inodes.type_of}
 use Rattle.ffs_volume.specs.Directories.{Entries.Entry, Roles.{Volume, RoledEntry, is_dir, is_allocated_inode}}
 use Rattle.ffs_volume.specs.Directories.{Roles.{roled_entries, dot, dotdot, references}, Graph.reached}
-use Rattle.ffs_volume.specs.Directories.{Graph.{is_naming_entry_at, IsNamedOnce}, Parents.{graph_of, nth_roled}}
+use Rattle.ffs_volume.specs.Directories.{Graph.{is_naming_entry_at, IsNamedOnce}, Naming.{graph_of, nth_roled}}
 use Rattle.ffs_volume.specs.Directories.PathnameCheck.{are_sound}
 
 -- a directory's size is a positive multiple of 512 bytes

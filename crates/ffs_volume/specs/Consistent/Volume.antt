@@ -1,8 +1,8 @@
 -- When a volume is consistent, said without the phases of a check and without its messages.
 use Rattle.std.specs.{Prelude.{◌≡◌, ℕ, true, List}, List.list_all}
 use Rattle.ffs_volume.specs.{Disk.Superblock.Superblock, Blocks.Owners.owners_of, Consistent.BlocksRight.is_right_class}
-use Rattle.ffs_volume.specs.{Consistent.BlocksRight.AreRunsRight, Groups.Records.AreGroupsRight}
-use Rattle.ffs_volume.specs.{Groups.GroupCheck.is_free_of_runs, Consistent.DirectoriesRight.AreDirsRight}
+use Rattle.ffs_volume.specs.Consistent.{BlocksRight.AreRunsRight, GroupsRight.AreGroupsRight}
+use Rattle.ffs_volume.specs.Consistent.{GroupsRight.is_free_of_runs, DirectoriesRight.AreDirsRight}
 use Rattle.ffs_volume.specs.{Consistent.DirectoriesRight.{AreLinksRight, AreCountsRight}, Directories.Volumes.class_at}
 use Rattle.ffs_volume.specs.{Directories.Volumes.whole_volume, Report.Opening.{has_valid_optim, has_valid_minfree}}
 

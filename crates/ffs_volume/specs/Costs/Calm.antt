@@ -1,11 +1,11 @@
--- Calm directories: those of which phase 2 can report nothing, by what a survey sees where it reads them.
+-- Calm directories: phase 2 can report nothing of them, as a survey sees where it reads them.
 use Rattle.std.specs.Prelude.{ℕ, suc, ◌==◌, Bool, false, not, ◌&&◌, ◌||◌, nat_le, nat_lt, List, [], ◌∷◌, length, map}
 use Rattle.std.specs.{List.range_with_len, Option.unwrap_or}
 use Rattle.ffs_volume.specs.declared.constants.TheConstants.{WINO, ROOTINO, DT_DIR, DT_WHT, EMPTY_DIR_KIND, UNKNOWN_KIND}
 use Rattle.ffs_volume.specs.declared.{Layout.Layout, Role.{Role, TheVariants.{Empty, Dot, Dotdot, Extra, Plain}}}
 use Rattle.ffs_volume.specs.{Blocks.Inodes.inodes_of, Encodings.Lists.{bool_at, number_at}}
 use Rattle.ffs_volume.specs.Encodings.Kinds.{is_dir_at, is_allocated_kind, kind_at}
-use Rattle.ffs_volume.specs.Directories.{Graph.{is_naming_entry, parent, reached}, Parents.graph_of}
+use Rattle.ffs_volume.specs.Directories.{Graph.{is_naming_entry, parent, reached}, Naming.graph_of}
 use Rattle.ffs_volume.specs.Directories.PathnameCheck.{are_sound, has_partial_chunk, is_short}
 use Rattle.ffs_volume.specs.Directories.{Roles.{RoledEntry, Volume, is_dir, roled_entries}, Volumes.{marked_at, volume_of}}
 
@@ -18,8 +18,8 @@ abbrev pub is_right_shape : Volume → ℕ → Bool
 is_right_shape vol d = is_right_size (vol.inode d).size && (are_sound (vol.chunks d) && not (vol.gap d))
 
 -- inode d is a directory of right shape
-abbrev pub is_right_directory : Volume → ℕ → Bool
-is_right_directory vol d = is_dir vol d && is_right_shape vol d
+abbrev pub is_directory_of_right_shape : Volume → ℕ → Bool
+is_directory_of_right_shape vol d = is_dir vol d && is_right_shape vol d
 
 -- the current directory and its parent, and what its entries are compared with: the kinds of inodes
 -- and which are marked

@@ -7,14 +7,14 @@ use Rattle.ffs_volume.specs.Directories.Volumes.{marked_at, volume_of}
 use Rattle.ffs_volume.specs.Encodings.{Notes.{first_noted, note_at}, Replay.{cut_at, fresh_replay}}
 use Rattle.ffs_volume.specs.Encodings.ReplayCounts.{replayed_runs}
 
--- the sum of the costs c of those numbers below n for which r holds
-abbrev pub costs_below : (ℕ → Bool) → (ℕ → ℕ) → ℕ → ℕ
-costs_below r c zero = 0
-costs_below r c (suc n) = costs_below r c n + cond (r n) (c n) 0
+-- the sum of the costs of those numbers below n that pass
+abbrev pub costs_below : (passes : ℕ → Bool) → (cost : ℕ → ℕ) → ℕ → ℕ
+costs_below passes cost zero = 0
+costs_below passes cost (suc n) = costs_below passes cost n + cond (passes n) (cost n) 0
 
 -- of all numbers below n
 abbrev pub costs_all : (ℕ → ℕ) → ℕ → ℕ
-costs_all c n = costs_below (λ x. true) c n
+costs_all cost n = costs_below (λ x. true) cost n
 
 -- how many Runs of the inode x are seen
 abbrev pub directory_runs : Layout → List ℕ → ℕ → ℕ
@@ -35,12 +35,12 @@ inode_reads v b x = if nat_lt (note_at v b x) first_noted then 1 else 0
 
 -- at most how many reads a directory takes in a sweep, which knows the notes: its inode, if that is read,
 -- and each of its Runs that is seen; none for another inode
-abbrev pub sweep_cost : Layout → List ℕ → ℕ → ℕ
-sweep_cost v b x = if is_dir (volume_of v b) x then inode_reads v b x + directory_runs v b x else 0
+abbrev pub noted_directory_cost : Layout → List ℕ → ℕ → ℕ
+noted_directory_cost v b x = if is_dir (volume_of v b) x then inode_reads v b x + directory_runs v b x else 0
 
 -- the same of all directories
-abbrev pub sweep_costs : Layout → List ℕ → ℕ
-sweep_costs v b = costs_all (sweep_cost v b) (inodes_of v)
+abbrev pub noted_directories_cost : Layout → List ℕ → ℕ
+noted_directories_cost v b = costs_all (noted_directory_cost v b) (inodes_of v)
 
 -- d is a directory that isn't of size 0, and it is marked, or something may be reported of it
 abbrev pub is_looked_at : Layout → List ℕ → ℕ → Bool
@@ -52,8 +52,8 @@ looks_cost v b = 2 * costs_below (is_looked_at v b) (directory_cost v b) (inodes
 
 -- the places of parent entries are noted in one sweep, where some directory is looked at
 abbrev pub places_cost : Layout → List ℕ → ℕ
-places_cost v b = if some_below (is_looked_at v b) (inodes_of v) then sweep_costs v b else 0
+places_cost v b = if some_below (is_looked_at v b) (inodes_of v) then noted_directories_cost v b else 0
 
 -- the survey is a sweep; then come the places and the looks
 abbrev pub phase2_cost : Layout → List ℕ → ℕ
-phase2_cost v b = sweep_costs v b + (places_cost v b + looks_cost v b)
+phase2_cost v b = noted_directories_cost v b + (places_cost v b + looks_cost v b)

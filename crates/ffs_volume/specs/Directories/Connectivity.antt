@@ -2,7 +2,7 @@
 use Rattle.std.specs.Prelude.{ℕ, ◌==◌, Bool, true, not, ◌&&◌, ◌||◌, List, Option, None, Some}
 use Rattle.ffs_volume.specs.declared.{constants.TheConstants.ROOTINO, tree_lines.ReferenceLine.TheVariants.UnrefDir}
 use Rattle.ffs_volume.specs.Directories.{Climb.is_leader_within, Graph.{Graph, is_named, parent, reached}}
-use Rattle.ffs_volume.specs.Directories.{Parents.graph_of, PathnameCheck.attributes, Roles.{Volume, is_suspect}}
+use Rattle.ffs_volume.specs.Directories.{Naming.graph_of, PathnameCheck.attributes, Roles.{Volume, is_suspect}}
 use Rattle.ffs_volume.specs.Messages.Kinds.{TreeMessage, lines_below, of_reference, reported}
 
 -- x is dead: it is suspect, isn't the root, and no plain entry names it
@@ -10,8 +10,8 @@ abbrev pub is_dead_in : Graph → (ℕ → Bool) → ℕ → Bool
 is_dead_in g suspect x = suspect x && (not (x == ROOTINO) && not (is_named g x))
 
 -- d is lost: a directory other than 2 that is neither reached nor dead
-abbrev pub is_lost : Graph → (ℕ → Bool) → ℕ → Bool
-is_lost g suspect d = g.is_dir d && (not (d == ROOTINO) && (not (reached g d) && not (is_dead_in g suspect d)))
+abbrev pub is_lost_in : Graph → (ℕ → Bool) → ℕ → Bool
+is_lost_in g suspect d = g.is_dir d && (not (d == ROOTINO) && (not (reached g d) && not (is_dead_in g suspect d)))
 
 -- the directory has no parent, or a dead one
 abbrev pub none_or_dead : Graph → (ℕ → Bool) → Option ℕ → Bool
@@ -22,7 +22,7 @@ none_or_dead g suspect (Some s) = is_dead_in g suspect s
 -- a dead one, or is the least on its cycle of parents
 abbrev pub is_unref_dir_in : Graph → (ℕ → Bool) → ℕ → Bool
 is_unref_dir_in g suspect d =
-    is_lost g suspect d && (none_or_dead g suspect (parent g d) || is_leader_within (parent g) g.count d)
+    is_lost_in g suspect d && (none_or_dead g suspect (parent g d) || is_leader_within (parent g) g.count d)
 
 -- the same in a volume
 abbrev pub is_dead : Volume → ℕ → Bool

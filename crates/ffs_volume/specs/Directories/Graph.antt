@@ -1,8 +1,8 @@
--- Levels and parents of the directories of a volume, read as a graph, which `Parents` makes of it
+-- Levels and parents of the directories of a volume, read as a graph, which `Naming` makes of it
 -- (`graph_of`). Only plain entries count. A plain entry names the number that it carries
 -- (`is_naming_entry`; by its index `is_naming_entry_at`), and its directory names it too
 -- (`is_naming_dir`). A number is named where some directory names it (`is_named`).
-use Rattle.std.specs.Prelude.{◌≡◌, ℕ, zero, suc, ◌==◌, Bool, true, false, not, ◌&&◌, ◌||◌, List, Option, None, Some}
+use Rattle.std.specs.Prelude.{◌≡◌, ℕ, zero, suc, ◌==◌, Bool, true, false, ◌&&◌, ◌||◌, List, Option, None, Some}
 use Rattle.std.specs.{Prelude.{is_some, cond, [], ◌∷◌, option_map, if◌then◌else◌}, List.list_any}
 use Rattle.ffs_volume.specs.{declared.constants.TheConstants.ROOTINO, Directories.Roles.{RoledEntry, is_plain}}
 use Rattle.ffs_volume.specs.{Disk.Search.{first_below, some_below}, Directories.Climb.is_value}

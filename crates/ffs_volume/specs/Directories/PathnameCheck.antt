@@ -9,7 +9,7 @@ use Rattle.ffs_volume.specs.{declared.Role.TheVariants.{Dotdot, Extra, Plain}, D
 use Rattle.ffs_volume.specs.{Directories.Entries.is_live, Blocks.Inodes.{type_of, is_directory, is_allocated}}
 use Rattle.ffs_volume.specs.{Blocks.Inodes.is_unknown, Directories.Roles.{Volume, RoledEntry, is_dir, is_suspect}}
 use Rattle.ffs_volume.specs.Directories.Roles.{is_one_dot, is_two_dots, start_entry, roled_entries}
-use Rattle.ffs_volume.specs.Directories.{Graph.parent, Parents.{graph_of, is_first_naming_entry, is_parent_entry}}
+use Rattle.ffs_volume.specs.Directories.{Graph.parent, Naming.{graph_of, is_first_naming_entry, is_parent_entry}}
 use Rattle.ffs_volume.specs.{Directories.Paths.{dir_path, entry_path}, Messages.Kinds.{TreeMessage, reported}}
 use Rattle.ffs_volume.specs.Messages.Kinds.{lines_below}
 use Rattle.ffs_volume.specs.declared.tree_lines.DirectoryLine.TheVariants.{DirCorrupt, DirHoles, DirLength, DirShort}

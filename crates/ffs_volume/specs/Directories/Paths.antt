@@ -2,7 +2,7 @@
 use Rattle.std.specs.Prelude.{ℕ, zero, suc, ◌-◌, nat_le, nat_lt, if◌then◌else◌, List, [], ◌∷◌, ◌++◌, length, Option}
 use Rattle.std.specs.{Prelude.{Some, None, option_map, option_and_then}, List.flat_map}
 use Rattle.ffs_volume.specs.{declared.constants.TheConstants.MAXPATHLEN, Directories.{Roles.RoledEntry, Graph.Graph}}
-use Rattle.ffs_volume.specs.Directories.{Graph.{level, parent, parent_entry_index}, Parents.nth_roled}
+use Rattle.ffs_volume.specs.Directories.{Graph.{level, parent, parent_entry_index}, Naming.nth_roled}
 
 -- names, each after a `/`
 abbrev pub joined : List (List ℕ) → List ℕ

@@ -9,7 +9,7 @@ use Rattle.ffs_volume.specs.Encodings.Replay.{cut_at}
 -- notes from this number on are addresses, from 0 on. No inode keeps so many offers, since each one
 -- that it keeps is of one of three kinds: it claims a fragment that was unused (fewer than 2^31), it
 -- is in a bad Run (at most 8 in each of at most eleven), or it is a dup offer (at most eleven). So
--- there are fewer than 2^31 + 99, by `few_kept` of `ClaimBound`; 128 is the next power of two
+-- there are fewer than 2^31 + 99 (`ClaimBound` of `Laws/ClaimBounds`); 128 is the next power of two
 abbrev pub first_noted : ℕ
 first_noted = 2 ^ 31 + 128
 

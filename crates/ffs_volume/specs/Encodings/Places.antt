@@ -8,7 +8,7 @@ use Rattle.std.specs.Prelude.{◌≡◌, ℕ, suc, ◌+◌, ◌-◌, ◌*◌, �
 use Rattle.std.specs.{Prelude.{if◌then◌else◌, slice_index, Some, option_and_then}, List.{flat_map, list_any, range_with_len}}
 use Rattle.ffs_volume.specs.{declared.{constants.TheConstants.DIRBLKSIZ, Layout.Layout, Order.Order}, Disk.Numbers.piece}
 use Rattle.ffs_volume.specs.Directories.{Entries.entries_of, Graph.{is_naming_entry, first_index, level, parent}}
-use Rattle.ffs_volume.specs.Directories.{Parents.{graph_of, nth_roled}, Paths.name_of, Roles.RoledEntry}
+use Rattle.ffs_volume.specs.Directories.{Naming.{graph_of, nth_roled}, Paths.name_of, Roles.RoledEntry}
 use Rattle.ffs_volume.specs.Directories.{Roles.{roled_entries, roled_from}, Volumes.volume_of}
 
 -- the part that a word notes: 0 for none, else 1 more than its number

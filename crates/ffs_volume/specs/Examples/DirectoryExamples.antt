@@ -7,7 +7,7 @@ use Rattle.ffs_volume.specs.declared.{Label.TheVariants.File as FileLabel, Role.
 use Rattle.ffs_volume.specs.declared.{Role.TheVariants.Plain, Step.TheVariants.{Run, Tail, Gap}}
 use Rattle.ffs_volume.specs.Directories.Entries.{Entry, Chunk, ChunkSource, entry_at, entries_of, is_sound, chunks_of}
 use Rattle.ffs_volume.specs.Directories.{Entries.{has_gap, bytes_read}, Roles.{Volume, role_of, references}}
-use Rattle.ffs_volume.specs.Directories.{Graph.{level, parent}, Parents.graph_of, Paths.{path_bytes, dir_path}}
+use Rattle.ffs_volume.specs.Directories.{Graph.{level, parent}, Naming.graph_of, Paths.{path_bytes, dir_path}}
 use Rattle.ffs_volume.specs.Directories.{Paths.entry_path, PathnameCheck.pathname_lines}
 use Rattle.ffs_volume.specs.Directories.{Connectivity.connectivity_lines, ReferenceCheck.reference_lines}
 use Rattle.ffs_volume.specs.Examples.Images.{bytes_in, word, zero_bytes, root_chunk}
@@ -33,7 +33,7 @@ entry_bytes o x n kind name = word o x ++ (bytes_in o 2 n ++
 unfoldable pub with_second_entry : Order → List ℕ → List ℕ
 with_second_entry o bytes = take 12 (root_chunk o) ++ (bytes ++ drop (12 + length bytes) (root_chunk o))
 
--- `.` and `..`; an entry of 12 bytes, and one of 500 bytes that is the last of its chunk
+-- the names `.` and `..`
 abbrev pub one_dot : List ℕ
 one_dot = 46 ∷ []
 

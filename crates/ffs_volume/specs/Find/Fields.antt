@@ -54,8 +54,8 @@ total_fields s bytes =
     ∷ []
 
 -- a field has what it should have
-abbrev pub is_right_field : Field → Bool
-is_right_field f = int_eq f.has f.wants
+abbrev pub has_what_it_wants : Field → Bool
+has_what_it_wants f = int_eq f.has f.wants
 
 -- the line of a field of a superblock that begins at a byte of the image: the byte where the field
 -- begins, what it has, and what it wants
@@ -66,7 +66,7 @@ field_text start f = concat (
 
 -- the line of a field, where it is wrong
 abbrev pub field_lines : (start : ℕ) → Field → List (List ℕ)
-field_lines start f = if is_right_field f then [] else field_text start f ∷ []
+field_lines start f = if has_what_it_wants f then [] else field_text start f ∷ []
 
 -- the lines of an image with this superblock, which is read at a sector, or at the usual place
 unfoldable pub wrong_fields : (s : Superblock) (image : List ℕ) (sector : Option ℕ) → List (List ℕ)

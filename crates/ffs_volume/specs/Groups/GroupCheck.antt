@@ -1,9 +1,9 @@
 -- The lines of phase 5.
-use Rattle.std.specs.Prelude.{ℕ, Bool, true, false, ◌&&◌, ◌||◌, ◌==◌, not, List, [], ◌∷◌, ◌++◌, nat_lt, if◌then◌else◌}
-use Rattle.std.specs.{Prelude.ℤ, List.{flat_map, list_any}}
+use Rattle.std.specs.Prelude.{ℕ, Bool, true, false, ◌&&◌, not, List, [], ◌∷◌, ◌++◌, nat_lt, if◌then◌else◌}
+use Rattle.std.specs.{Prelude.ℤ, List.flat_map}
 use Rattle.ffs_volume.specs.declared.{Layout.Layout, Class.Class, BlockMessage.{BlockMessage, TheVariants.GroupMagic}}
 use Rattle.ffs_volume.specs.declared.BlockMessage.TheVariants.{FreeCounts, MapsWrong, GroupSums}
-use Rattle.ffs_volume.specs.{Disk.Areas.is_reserved, Blocks.{Owners.{Owner, fragments_of, all_steps}, Claims.is_set}}
+use Rattle.ffs_volume.specs.Blocks.{Owners.Owner, Claims.is_set}
 use Rattle.ffs_volume.specs.Blocks.Claims.{no_claims, after_owners}
 pub use Rattle.ffs_volume.specs.Messages.Kinds.{unless}
 use Rattle.ffs_volume.specs.Groups.Records.{group_block, summary_record, group_numbers, has_right_magic, maps_fit}
@@ -67,8 +67,3 @@ phase5_lines v image totals free class = reported_once unreported (all_group_lin
 -- f is free as phase 5 counts it: neither reserved nor claimed by a kept offer
 abbrev pub is_free_of_kept : Layout → List Owner → ℕ → Bool
 is_free_of_kept v os f = nat_lt f v.size && not (is_set (after_owners v (no_claims v) os).used f)
-
--- f is free as a consistent volume has it: neither reserved nor in a Run
-abbrev pub is_free_of_runs : Layout → List Owner → ℕ → Bool
-is_free_of_runs v os f =
-    nat_lt f v.size && not (is_reserved v f || list_any (λ g. g == f) (fragments_of (all_steps os)))

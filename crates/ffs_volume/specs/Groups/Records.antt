@@ -2,7 +2,7 @@
 -- fragments are below the size and not used, and `class` gives the class of an inode from 2 on. The
 -- numbers 4, 12, 20, 24, 52, 92 and 96 are offsets in a group block, in bytes: fs(5).
 use Rattle.std.specs.Prelude.{ℕ, Bool, true, false, ◌+◌, ◌-◌, ◌*◌, ◌/◌, ◌%◌, ◌^◌, min, ◌&&◌, ◌||◌, not, List, [], ◌∷◌}
-use Rattle.std.specs.Prelude.{◌++◌, ◌==◌, nat_lt, nat_le, if◌then◌else◌, map, count_by, slice_index, ◌≡◌, ◌<◌, ℤ, pos}
+use Rattle.std.specs.Prelude.{◌++◌, ◌==◌, nat_lt, nat_le, if◌then◌else◌, map, count_by, slice_index, ℤ, pos}
 use Rattle.std.specs.{List.{list_all, range_with_len, sum_by, slice_index_or}, Int.div_ceil}
 use Rattle.ffs_volume.specs.declared.{constants.TheConstants.{CG_MAGIC, CSUM_SIZE}, Layout.Layout, Class.Class}
 use Rattle.ffs_volume.specs.Disk.{Numbers.{u32_at, piece, all_below, equals_natural}, Areas.{cgbase, group_place}}
@@ -161,17 +161,3 @@ has_totals total s =
 -- the totals are right
 unfoldable pub has_right_totals : Layout → (ℕ → Bool) → (ℕ → Class) → List ℤ → Bool
 has_right_totals v free class total = has_totals total (right_total v free class)
-
--- the group block and the summary record of group c are right
-pub record IsGroupRight (v : Layout) (image : List ℕ) (free : ℕ → Bool) (class : ℕ → Class) (c : ℕ) : Type 0 where
-  pub magic : has_right_magic v (group_block v image c) ≡ true
-  pub places : maps_fit v (group_block v image c) ≡ true
-  pub maps : has_right_maps v free class c (group_block v image c) ≡ true
-  pub sums : has_right_sums v free class c (group_block v image c) ≡ true
-  pub record_is : has_right_record v free class c (summary_record v image c) ≡ true
-
--- all groups are right, and so are the superblock's totals
-pub record AreGroupsRight (v : Layout) (image : List ℕ) (totals : List ℤ) (free : ℕ → Bool) (class : ℕ → Class)
-    : Type 0 where
-  pub groups : (c : ℕ) → c < v.ncg → IsGroupRight v image free class c
-  pub total : has_right_totals v free class totals ≡ true

@@ -116,9 +116,9 @@ report_of image name sector = head_lines name sector ++ lines_by_outcome image (
 unfoldable pub report_end : (image : List ℕ) (sector : Option ℕ) → End
 report_end image sector = end_by_outcome image (outcome image sector)
 
--- the end follows from the text that was printed, of any image: `Refused` has the fault that the opening
--- says. Any other is `RootStop` just where the check stops after the last message, and else says whether
--- there is a defect
+-- the end of a whole report follows from the text that was printed, of any image: `Refused` has the fault
+-- that the opening says. Any other is `RootStop` just where the check stops after the last message, and else
+-- says whether there is a defect. No report that is whole ends as `ReadFault`, `WriteFault` or `NoMemory`
 abbrev pub EndAgrees : (name : List ℕ) (sector : Option ℕ) (text : List Message) → End → Type 0
 EndAgrees name sector text (Refused fault) = text ≡ opening_lines name sector (Err fault)
 EndAgrees name sector text end = end ≡ end_by (not (stops_at_last text)) (has_defect text)

@@ -1,7 +1,7 @@
 use Rattle.std.proofs.Common.{◌≡◌, ◌≢◌, ◌<◌, ◌≤◌, ◌==◌, ◌&&◌, nat_lt, List, ◌*◌, ◌+◌, ◌∙◌, false, true, suc, ℕ, ap, arith, below_more, length, refl}
 use Rattle.std.proofs.{Common.{rules, slice_index, slice_set, sym}, lemmas.Grind.{common_steps, get_or_default_zero}}
 use Rattle.std.proofs.lemmas.{Bool.Decides.nat_tests, Result.err_from_is_err_and}
-use Rattle.ffs_volume.{proofs.Sizes.some_inodes, specs.{Blocks.Inodes.inodes_of, Costs.DirectoryReads.sweep_cost}}
+use Rattle.ffs_volume.{proofs.Sizes.some_inodes, specs.{Blocks.Inodes.inodes_of, Costs.DirectoryReads.noted_directory_cost}}
 use Rattle.ffs_workspace.specs.declared.workspace.Workspace.{Workspace}
 use Rattle.ffs_volume.specs.Encodings.Places.{is_due as is_to_be_read, part_in}
 use Rattle.ffs_survey.proofs.Costs.{cost_take, costs_rise}
@@ -84,7 +84,7 @@ loop-dir-preserved g c =
             reads = λ b k.
                 let is = parent_is_dir k.2 (inv.only dir unread) in
                 let took = noted.notes b (ap (λ d. d.contents) inv.same ∙ k.0, claims_noted lists k.1) is in
-                let more = cost_take (has_child first.parents.items) (sweep_cost v b) dir (child_of (inv.only dir unread)) in
+                let more = cost_take (has_child first.parents.items) (noted_directory_cost v b) dir (child_of (inv.only dir unread)) in
                 omega (arith, took.counted, more, inv.reads b k);
             places = λ b k.
                 let right = places_same v b old mid.queue.items same (inv.places b k) in
@@ -107,7 +107,7 @@ loop-dir-preserved g c =
                 (ap is_to_be_read (sym word) ∙ (sym c.is_due.ensures ∙ w.if-is_due.false));
             only = inv.only;
             reads = λ b k.
-                let more = costs_rise (has_child first.parents.items) (sweep_cost v b) dir (dir + 1) (omega arith) in
+                let more = costs_rise (has_child first.parents.items) (noted_directory_cost v b) dir (dir + 1) (omega arith) in
                 omega (arith, more, inv.reads b k);
             places = inv.places;
             noted = inv.noted;
@@ -180,6 +180,6 @@ returns-in_err-note_directory-clause-parents g c = λ b k.
     let took = (c.in_err-note_directory.ensures.notes b (ap (λ d. d.contents) inv.same ∙ k.0, claims_noted lists k.1)
     (parent_is_dir k.2 (inv.only dir unread))).counted in
     let child = child_of (inv.only dir unread) in
-    let more = cost_take (has_child first.parents.items) (sweep_cost v b) dir child in
-    let all = costs_rise (has_child first.parents.items) (sweep_cost v b) (dir + 1) (v.ncg * v.ipg) (omega arith) in
+    let more = cost_take (has_child first.parents.items) (noted_directory_cost v b) dir child in
+    let all = costs_rise (has_child first.parents.items) (noted_directory_cost v b) (dir + 1) (v.ncg * v.ipg) (omega arith) in
     omega (arith, took, more, all, inv.reads b k)

@@ -2,7 +2,7 @@ use Rattle.std.proofs.Common.{◌≡◌, ◌<◌, ◌≤◌, ◌+◌, ℕ, false
 use Rattle.ffs_image.specs.Known.{ForBytes}
 use Rattle.ffs_workspace.specs.{Found.WithSurvey, Ready.CanRead}
 use Rattle.ffs_volume.specs.{Encodings.Places.{is_due as is_to_be_read, AreParts}, Costs.DirectoryReads.costs_below}
-use Rattle.ffs_volume.specs.Costs.DirectoryReads.{sweep_cost}
+use Rattle.ffs_volume.specs.Costs.DirectoryReads.{noted_directory_cost}
 use Rattle.ffs_names.{specs.Noting.has_child, proofs.PlacesNoted.{AreComing, OnlyParents}}
 use Rattle.ffs_names.proofs.places.note_places_unlimited.Given as goal
 
@@ -17,7 +17,7 @@ invariant-loop-dir g l = let device = g.I.Image.device in
       only : OnlyParents l.fn.workspace.parents.items l.workspace.queue.items;
       reads : ForBytes known (λ b.
           g.I.Image.reads l.image ≤ g.I.Image.reads l.fn.image
-          + costs_below (has_child l.fn.workspace.parents.items) (sweep_cost l.geometry.layout b) l.dir);
+          + costs_below (has_child l.fn.workspace.parents.items) (noted_directory_cost l.geometry.layout b) l.dir);
       places : ForBytes known (λ b. AreParts l.geometry.layout b l.workspace.queue.items);
       noted : ForBytes known (λ b. AreComing l.geometry.layout b l.workspace.queue.items);
     }

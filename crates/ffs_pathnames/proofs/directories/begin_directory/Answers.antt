@@ -1,7 +1,8 @@
 use Rattle.std.proofs.Common.{◌∙◌, ap, map, arith, length, ◌≡◌, ◌≤◌, ◌+◌, ◌*◌, ℕ, List, option_map}
 use Rattle.std.proofs.lemmas.Result.{err_from_is_err_and}
 use Rattle.ffs_volume.specs.{Messages.Kinds.of_tree, Blocks.Inodes.inode_of, Directories.Volumes.volume_of}
-use Rattle.ffs_volume.specs.Directories.{Parents.graph_of, PathnameCheck.{attributes, attributes_of, dir_header_lines, header_defects}}
+use Rattle.ffs_volume.specs.Directories.{Naming.graph_of, PathnameCheck.{attributes, attributes_of, dir_header_lines}}
+use Rattle.ffs_volume.specs.Directories.PathnameCheck.{header_defects}
 use Rattle.ffs_volume.specs.{Directories.{PathnameCheck.header_lines, Paths.dir_path}, Report.Reads.line_reads}
 use Rattle.ffs_volume.specs.{Costs.DirectoryReads.directory_cost, Encodings.Places.AreNoted}
 use Rattle.ffs_report.proofs.{Reporting.{of_begins, of_reads}, Paying.{paid_answer, paid_failed, paid_beside}}

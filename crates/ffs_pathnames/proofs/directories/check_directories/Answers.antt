@@ -3,7 +3,7 @@ use Rattle.std.proofs.{Common.{ℕ, ◌≤◌, true}, lemmas.Result.err_from_is_
 use Rattle.ffs_volume.proofs.Numbered.{as_many, from_next, from_end, count_next as next_long}
 use Rattle.ffs_volume.specs.{Messages.Kinds.{of_tree, lines_from}, Directories.PathnameCheck.directory_lines}
 use Rattle.ffs_volume.specs.{Directories.Volumes.volume_of, Blocks.Inodes.inodes_of}
-use Rattle.ffs_volume.specs.Costs.DirectoryReads.{directory_cost, sweep_costs, is_looked_at}
+use Rattle.ffs_volume.specs.Costs.DirectoryReads.{directory_cost, noted_directories_cost, is_looked_at}
 use Rattle.ffs_report.proofs.Reporting.{of_begins, of_same, of_part, of_fault, of_reads, said_knows, reports_knowing}
 use Rattle.ffs_report.proofs.Paying.{paid_failed, paid_none, paid_then, paid_within}
 use Rattle.ffs_workspace.proofs.Leaving.{queue_leaves}
@@ -44,7 +44,7 @@ loop-number-init g c =
       low = first.ensures.range.0;
       findings = findings_noted _ _ noted.leaves.lists;
       reads = λ b k.
-          let made : g.I.Image.reads c.note_places.new.image ≤ g.I.Image.reads c.args.image.now + sweep_costs v b =
+          let made : g.I.Image.reads c.note_places.new.image ≤ g.I.Image.reads c.args.image.now + noted_directories_cost v b =
           c.note_places.ensures.reads.each b (k.gives_bytes, k.claims, k.survey) in
           rw (as_many (lines_from (directory_lines (volume_of v b)) 2 (inodes_of v - 2))
           (lines_from (directory_lines (volume_of v b)) first.result (inodes_of v - first.result)) (skipped b k).1)
@@ -53,7 +53,7 @@ loop-number-init g c =
           (queue_leaves c.args.workspace.now c.note_places.new.workspace noted.leaves.lists)
           (flags_kept c.args.workspace.now c.note_places.new.workspace noted.leaves.lists) checks;
       looks = λ b k checks.
-          let made : g.I.Image.reads c.note_places.new.image ≤ g.I.Image.reads c.args.image.now + sweep_costs v b =
+          let made : g.I.Image.reads c.note_places.new.image ≤ g.I.Image.reads c.args.image.now + noted_directories_cost v b =
           c.note_places.ensures.reads.each b (k.gives_bytes, k.claims, k.survey) in
           let below : first.result < inodes_of v = omega (arith, first.ensures.range.1, c.inodes-count.ensures) in
           let places = places_noted v b c.args.workspace.now first.result checks below

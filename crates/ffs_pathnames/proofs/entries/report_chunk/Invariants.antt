@@ -1,5 +1,5 @@
 use Rattle.std.proofs.Common.{◌≡◌, ◌+◌, ◌-◌, ◌*◌, ◌≤◌, ℕ, IsTrue, List, length, map, Ok}
-use Rattle.ffs_volume.specs.Directories.{Entries.entries_of, Parents.graph_of, Roles.roled_from, Volumes.volume_of}
+use Rattle.ffs_volume.specs.Directories.{Entries.entries_of, Naming.graph_of, Roles.roled_from, Volumes.volume_of}
 use Rattle.ffs_volume.specs.{Messages.Kinds.of_tree, Report.Reads.line_reads, Encodings.Places.AreNoted}
 use Rattle.ffs_report.specs.{Paid.Paid, PhaseOutcome.SaidOf, Progress.progress}
 use Rattle.ffs_image.specs.Known.{ForBytes}

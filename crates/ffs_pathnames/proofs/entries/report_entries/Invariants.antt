@@ -1,6 +1,6 @@
 use Rattle.std.{proofs.Common.{◌≡◌, ℕ, List, map, ◌+◌, ◌*◌, ◌≤◌, length, Ok}, specs.List.flat_map}
 use Rattle.ffs_volume.specs.{Messages.Kinds.of_tree, Report.Reads.{line_reads, path_reads}}
-use Rattle.ffs_volume.specs.Directories.{Parents.graph_of, Roles.{roled_chunk, roled_entries}, Volumes.volume_of}
+use Rattle.ffs_volume.specs.Directories.{Naming.graph_of, Roles.{roled_chunk, roled_entries}, Volumes.volume_of}
 use Rattle.ffs_volume.specs.{Costs.DirectoryReads.directory_runs, Encodings.Places.AreNoted}
 use Rattle.ffs_pathnames.specs.{LineReads.{again_reads, path_owed}, Ready.ReadyWith, Gathers.passed_of}
 use Rattle.ffs_pathnames.specs.{Stamps.KeepParts, DirectoryContext.BeginsPathOf, ReadsLeft.LeftForRuns}

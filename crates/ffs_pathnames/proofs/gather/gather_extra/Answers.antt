@@ -1,5 +1,5 @@
 use Rattle.std.proofs.{Common.{ap, ◌∙◌, arith}, lemmas.Result.err_from_is_err_and}
-use Rattle.ffs_volume.specs.Directories.{Parents.graph_of, Volumes.volume_of}
+use Rattle.ffs_volume.specs.Directories.{Naming.graph_of, Volumes.volume_of}
 use Rattle.ffs_paths.proofs.Sparing.{on_all}
 use Rattle.ffs_pathnames.proofs.{Carrying.if_ok, ReadyLaws.{gather_failed, leaves_read}}
 use Rattle.ffs_pathnames.proofs.PathOnce.{begin_most, begin_once}

@@ -1,6 +1,6 @@
 use Rattle.std.proofs.Common.{arith, ◌≡◌, refl, sym, ap, ◌∙◌, ℕ, List, [], map, append-nil, ◌≤◌, ◌++◌, length}
 use Rattle.std.proofs.lemmas.Result.{err_from_is_err_and}
-use Rattle.ffs_volume.specs.{Messages.Kinds.of_tree, Directories.{PathnameCheck.attributes, Parents.graph_of}}
+use Rattle.ffs_volume.specs.{Messages.Kinds.of_tree, Directories.{PathnameCheck.attributes, Naming.graph_of}}
 use Rattle.ffs_volume.specs.Directories.{PathnameCheck.header_lines, Paths.dir_path, Volumes.volume_of}
 use Rattle.ffs_volume.proofs.VerdictLaws.{header_silent, some_header}
 use Rattle.ffs_report.proofs.{Reports.said_none, Paying.{paid_none, paid_reads, paid_says, paid_stops}}

@@ -5,16 +5,16 @@ use Rattle.ffs_volume.specs.Encodings.Kinds.{is_dir_at}
 use Rattle.ffs_survey.proofs.unref.is_unref.Goals as goal
 
 -- a directory that passed the first four tests
-is_lost : {v : Graph} {suspect : ℕ → Bool} {kinds : List ℕ} {reached : List Bool} {parents : List ℕ} {d : ℕ} →
+lost_by_parts : {v : Graph} {suspect : ℕ → Bool} {kinds : List ℕ} {reached : List Bool} {parents : List ℕ} {d : ℕ} →
     IsTree v kinds reached parents → is_dir_at kinds d ≡ true → d ≢ 2 → bool_at reached d ≡ false →
     is_dead_in v suspect d ≡ false → IsLost v suspect d
-is_lost {d = d} t dir other off alive = grind arith
+lost_by_parts {d = d} t dir other off alive = grind arith
 
 pub returns-in_default : goal.returns-in_default
 returns-in_default c = λ v n t.
     let found = c.args.found.now in
     let unref = unref_is {suspect = suspect_at found.kinds.now found.marked.now.items} found.whole.parents_long t
-    (is_lost {d = c.args.dir} t (sym c.is_dir.ensures ∙ c.if-not-is_dir.false) (omega arith) (grind arith)
+    (lost_by_parts {d = c.args.dir} t (sym c.is_dir.ensures ∙ c.if-not-is_dir.false) (omega arith) (grind arith)
     (sym (dead_is _ c.args.dir n c.requires c.is_dead.ensures) ∙ c.if-is_dead.false)) in
     sym (rw c.in_default.ensures at unref)
 
@@ -25,7 +25,7 @@ pub returns : goal.returns
 returns c = λ v n t.
     let found = c.args.found.now in
     let unref = unref_is {suspect = suspect_at found.kinds.now found.marked.now.items} found.whole.parents_long t
-    (is_lost {d = c.args.dir} t (sym c.is_dir.ensures ∙ c.if-not-is_dir.false) (omega arith) (grind arith)
+    (lost_by_parts {d = c.args.dir} t (sym c.is_dir.ensures ∙ c.if-not-is_dir.false) (omega arith) (grind arith)
     (sym (dead_is _ c.args.dir n c.requires c.is_dead.ensures) ∙ c.if-is_dead.false)) in
     let some = ne_eqb c.in-Some.parent 0 c.in-Some.ensures.1 in
     let alive = sym (dead_is _ c.in-Some.parent n (omega arith) c.is_dead-2.ensures) ∙ c.if-is_dead-2.false in

@@ -1,5 +1,5 @@
 use Rattle.std.proofs.{Common.{ap, arith, refl, sym, subst}, lemmas.Result.err_from_is_err_and}
-use Rattle.ffs_volume.specs.Directories.{Parents.graph_of, Volumes.volume_of}
+use Rattle.ffs_volume.specs.Directories.{Naming.graph_of, Volumes.volume_of}
 use Rattle.ffs_paths.specs.{Climbing.{IsNameIn, IsParentOf}, Reads.ForTree, KeptParents.IsKeptParent, NameTexts.name_bytes}
 use Rattle.ffs_paths.{specs.declared.kept_parent.KeptParent.KeptParent, proofs.WaysUp.kept_parent_is}
 use Rattle.ffs_paths.proofs.Sparing.{costs_name, keeps_child, spares_name}

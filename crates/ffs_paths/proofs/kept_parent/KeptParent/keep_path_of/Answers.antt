@@ -1,5 +1,5 @@
 use Rattle.std.proofs.Common.{arith, refl, subst}
-use Rattle.ffs_volume.specs.Directories.{Parents.graph_of, Volumes.volume_of}
+use Rattle.ffs_volume.specs.Directories.{Naming.graph_of, Volumes.volume_of}
 use Rattle.ffs_paths.specs.DirectoryPaths.{IsPathOf}
 use Rattle.ffs_paths.proofs.{WaysUp.child_made, Keeping.{kept_on, names_none}}
 use Rattle.ffs_paths.proofs.kept_parent.KeptParent.keep_path_of.Goals as goal

@@ -1,5 +1,5 @@
 use Rattle.std.proofs.Common.{arith, subst}
-use Rattle.ffs_volume.specs.Directories.{Parents.graph_of, Volumes.volume_of}
+use Rattle.ffs_volume.specs.Directories.{Naming.graph_of, Volumes.volume_of}
 use Rattle.ffs_paths.specs.DirectoryPaths.{IsPathOf}
 use Rattle.ffs_paths.proofs.{Keeping.{kept_before, kept_still}, Sparing.{costs_as, costs_none, no_parent}, WaysUp.child_made}
 use Rattle.ffs_paths.proofs.kept_parent.KeptParent.path_to.Goals as goal

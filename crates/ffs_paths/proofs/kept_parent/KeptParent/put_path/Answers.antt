@@ -1,5 +1,5 @@
 use Rattle.std.proofs.{Common.{◌≡◌, subst, arith}, lemmas.Result.err_from_is_err_and}
-use Rattle.ffs_volume.specs.Directories.{Parents.graph_of, Paths.dir_path, Volumes.volume_of}
+use Rattle.ffs_volume.specs.Directories.{Naming.graph_of, Paths.dir_path, Volumes.volume_of}
 use Rattle.ffs_paths.proofs.{Keeping.{kept_before, kept_parent_held}, Sparing.{costs_as, costs_fault, costs_none, no_parent}, WaysUp.child_put}
 use Rattle.ffs_paths.proofs.kept_parent.KeptParent.put_path.Goals as goal
 
