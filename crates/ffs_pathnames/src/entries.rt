@@ -109,7 +109,7 @@ fn next_chunk<I: Image>(
 ///
 /// # Errors
 /// A read of the image that failed, and a write of the report that failed.
-pub fn report_chunk<I: Image, W: Output>(
+fn report_chunk<I: Image, W: Output>(
     geometry: &Geometry,
     image: &mut I,
     workspace: &mut Workspace,
@@ -141,7 +141,7 @@ pub fn report_chunk<I: Image, W: Output>(
 ///
 /// # Errors
 /// A read of the image that failed, and a write of the report that failed.
-pub fn report_entry<I: Image, W: Output>(
+fn report_entry<I: Image, W: Output>(
     geometry: &Geometry,
     image: &mut I,
     workspace: &mut Workspace,

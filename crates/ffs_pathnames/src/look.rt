@@ -158,7 +158,7 @@ fn unexamined() -> Examination
 ///
 /// # Errors
 /// A read of the image that failed.
-pub fn look_directory<I: Image>(
+fn look_directory<I: Image>(
     geometry: &Geometry,
     image: &mut I,
     workspace: &mut Workspace,
@@ -248,15 +248,15 @@ pub struct DirectoryChunk<'a> {
 
 /// What a look at the entries of a chunk finds.
 #[derive(Clone, Copy, Debug)]
-pub struct ChunkLook {
+struct ChunkLook {
     /// Whether it is sure that nothing is reported of them.
-    pub quiet: bool,
+    quiet: bool,
     /// Whether they fill the chunk.
-    pub sound: bool,
+    sound: bool,
 }
 
 /// Looks at the entries of a chunk of a directory, and stamps the inodes that belong to that.
-pub fn look_chunk(
+fn look_chunk(
     inodes: &Inodes<'_>,
     order: Order,
     flags: &FilledList<bool>,
