@@ -13,7 +13,7 @@ use Rattle.ffs_workspace.specs.{Holds.{HoldsBlockCheck, HoldsSurvey}, Leaves.Lea
 use Rattle.ffs_pathnames.specs.{ChecksNeeded.ChecksLookedAt, Before.IsBefore, Gathers.passed_of, LineReads.again_reads}
 use Rattle.ffs_pathnames.specs.{LineReads.ReadsByLines, HeaderValues.{KnowsHeader, facts_lines}}
 use Rattle.ffs_pathnames.specs.{Moments.LinesMoment, PassedNames.{are_quiet, directory_reported}, Ready.LinesLeave}
-use Rattle.ffs_pathnames.specs.{Ready.DirectoryLeaves, declared.entry_texts.Checking.Checking}
+use Rattle.ffs_pathnames.specs.{Ready.DirectoryLeaves, declared.checking.Checking.Checking}
 use Rattle.ffs_pathnames.specs.{Tasks.DirectoryTask, declared.header.HeaderFacts.HeaderFacts}
 
 -- the lines on what was found of a directory before its entries are said, and the image is read for no more

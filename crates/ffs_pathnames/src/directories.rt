@@ -9,8 +9,9 @@ ghost use Rattle.ffs_pathnames.specs.DirectoryLines.{ReadsQuietOnce, ReportsDire
 ghost use Rattle.ffs_pathnames.specs.{Tasks.{begin_task, check_task, sized_task}, Moments.lines_moment};
 ghost use Rattle.ffs_workspace.specs.{Ready.CanRead};
 
+use crate::checking::Checking;
 use crate::entries::report_entries;
-use crate::entry_texts::{Checking, EntryTexts};
+use crate::entry_texts::EntryTexts;
 use crate::header::{HeaderFacts, first_two, found_parent, report_header};
 use crate::look::{Directory, Examination, examine};
 use ffs_image::Image;

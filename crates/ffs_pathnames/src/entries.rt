@@ -5,7 +5,8 @@ ghost use Rattle.ffs_pathnames.specs.{Gathers.{roled_lines_by, roled_value}, Loo
 ghost use Rattle.ffs_pathnames.specs.{Ready.{ReadyToPath, ReadyToReport}, ReadsLeft.LeftForRuns, NextChunks.ReadsNext, Moments.{lines_moment, second_reading}};
 ghost use Rattle.ffs_pathnames.specs.{DirectoryLines.{ReadsForEntries, ReportsDirectory}, Tasks.entries_task, EntryLines.{PassesEntries, ReportsOneEntry}};
 
-use crate::entry_texts::{Checking, EntryTexts};
+use crate::checking::Checking;
+use crate::entry_texts::EntryTexts;
 use crate::gather::DirectoryEntry;
 use crate::inodes::Inodes;
 use crate::look::{Directory, DirectoryChunk};
