@@ -99,7 +99,7 @@ pub fn phase2<I: Image, W: Output>(
 {
     report.say(&Line::Heading(Heading::Phase2))?;
     survey(geometry, image, workspace)?;
-    clear_passed(workspace);
+    clear_passed_and_windows(workspace);
     check_tree(geometry, image, workspace, report)
 }
 
@@ -108,7 +108,7 @@ pub fn phase2<I: Image, W: Output>(
 /// 0, as the survey left it: no parent entry's place is noted, and none is due. The survey's flags
 /// of other inodes stay, and say which directories are calm: these are left out. The windows hold
 /// nothing.
-fn clear_passed(workspace: &mut Workspace)
+fn clear_passed_and_windows(workspace: &mut Workspace)
     requires lists { HasInodeLists workspace.old }
     requires unnoted { (x : ℕ) → slice_index workspace.old.queue.items x ≡ 0 }
     ensures { IsNonePassed workspace.old workspace.new }
