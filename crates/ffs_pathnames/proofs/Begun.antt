@@ -3,8 +3,8 @@ use Rattle.std.proofs.Common.{length, arith, ◌≡◌, ◌≤◌, suc, refl, sy
 use Rattle.std.proofs.{Common.{Err, append-nil, ltb-true}, lemmas.{List.map-append, Bool.and_parts}}
 use Rattle.ffs_pathnames.proofs.{LineCounts.lines_long, LookLaws.quiet_silent, PassedLaws.{size_of, IsDirectory}}
 use Rattle.ffs_pathnames.proofs.{PassedLaws.right_reported, BetweenLaws.{unstamped, looked, looked_right, quiet_next}}
-use Rattle.ffs_pathnames.{proofs.BetweenLaws.reported_next, specs.declared.look.Examination.Examination}
-use Rattle.ffs_pathnames.specs.{Examines.{IsExamined, LeavesAllButDue, StampsOwn}, HeaderValues.AreFirstTwo}
+use Rattle.ffs_pathnames.{proofs.BetweenLaws.reported_next, specs.declared.look.FirstLook.FirstLook}
+use Rattle.ffs_pathnames.specs.{DirectoryLooks.{IsFirstLook, LeavesAllButDue, StampsOwn}, HeaderValues.AreFirstTwo}
 use Rattle.ffs_pathnames.specs.{Begins.IsDirectoryBegun, PassedRight.RemembersBefore, PassedNames.PassedNames}
 use Rattle.ffs_pathnames.specs.PassedNames.{are_quiet, entries_reported, after_entries}
 use Rattle.ffs_volume.specs.{declared.Layout.Layout, Blocks.Inodes.inode_of, Directories.{Entries.Entry, Graph.parent}}
@@ -49,20 +49,21 @@ unfolding volume_of volume_with
 size_of_inode v b d = refl
 
 -- what was found is the volume's
-pub starts_are : (v : Layout) (b : List ℕ) (d : ℕ) (old : Workspace) (e : Examination) (start : List ℕ)
+pub starts_are : (v : Layout) (b : List ℕ) (d : ℕ) (old : Workspace) (f : FirstLook) (start : List ℕ)
     (above : Option ℕ) (first second : Option Entry) →
-    IsExamined v b d old e start → above ≡ parent (graph_of (volume_of v b)) d →
-    AreFirstTwo first second e.look.started v.order start →
-    header_lines (header_defects d e.inode.size above e.look.gap e.look.sound first second)
+    IsFirstLook v b d old f start → above ≡ parent (graph_of (volume_of v b)) d →
+    AreFirstTwo first second f.chunks.started v.order start →
+    header_lines (header_defects d f.inode.size above f.chunks.gap f.chunks.sound first second)
     (attributes (volume_of v b) d) (dir_path (graph_of (volume_of v b)) d) ≡ dir_header_lines (volume_of v b) d
 unfolding dir_header_lines start_entry
-starts_are v b d old e start above first second f p two =
+starts_are v b d old f start above first second found p two =
     let size = size_of_inode v b d in grind arith
 
-pub begun_is : (v : Layout) (b : List ℕ) (d : ℕ) (old new more : Workspace) (e : Examination) (start : List ℕ) →
-    IsExamined v b d old e start × StampsOwn v b d old new → LeavesAllButDue old new → more ≡ record new { windows = more.windows } →
-    IsDirectoryBegun v b d old e more
-begun_is v b d old new more e start f q m = grind arith
+pub begun_is : (v : Layout) (b : List ℕ) (d : ℕ) (old new more : Workspace) (f : FirstLook) (start : List ℕ) →
+    IsFirstLook v b d old f start × StampsOwn v b d old new → LeavesAllButDue old new →
+    more ≡ record new { windows = more.windows } →
+    IsDirectoryBegun v b d old f more
+begun_is v b d old new more f start found q m = grind arith
 
 -- a directory among the inodes
 pub directory_is : (v : Volume) (d : ℕ) → 2 ≤ d → is_dir v d ≡ true → IsDirectory v d

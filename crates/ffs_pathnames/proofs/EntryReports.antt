@@ -17,7 +17,7 @@ use Rattle.ffs_pathnames.proofs.LineCounts.{by_line, knows_places, some_said}
 
 -- the moment at which an image, how often it was read, a workspace, a report and the texts are these
 abbrev pub entries_at : Device → ℕ → Workspace → Progress → EntryTexts → LinesMoment EntryTexts
-entries_at d reads w said t = record { at = record { image = d; reads = reads; workspace = w }; said = said; kept = t }
+entries_at d reads w said t = record { at = record { image = d; reads = reads; workspace = w }; report = said; kept = t }
 
 module _ {S : Type 0} {v : Layout} {d d' : Device} {w w' : Workspace} {x : ℕ} {t t' : EntryTexts} {s : KeptParent}
     {lines : Volume → List TreeMessage} {reads reads' : ℕ} {r : Result S ImageFault}

@@ -6,7 +6,7 @@ use Rattle.std.specs.declared.vec.Vec.{Vec}
 use Rattle.ffs_workspace.specs.{Leaves.LeavesSurvey, declared.workspace.Workspace.Workspace}
 use Rattle.ffs_volume.specs.{Encodings.Places.{is_due, part_in, AreNoted}, declared.{Layout.Layout, Role.Role}}
 use Rattle.ffs_volume.specs.{Encodings.Kinds.is_dir_kind, Directories.{Entries.Entry, Roles.{Volume, is_plain}}}
-use Rattle.ffs_pathnames.specs.{Examines.LeavesAllButDue, declared.inodes.Inodes.Inodes, Sees.{Sees, passed_in}}
+use Rattle.ffs_pathnames.specs.{DirectoryLooks.LeavesAllButDue, declared.inodes.Inodes.Inodes, Sees.{Sees, passed_in}}
 use Rattle.ffs_pathnames.specs.{Sees.stamps_in, Stamps.{stamp_of, stamps_of, KeepParts, KeepsWords}}
 use Rattle.ffs_pathnames.specs.PassedNames.{after_look, after_roled}
 use Rattle.ffs_survey.specs.Survey.{suspect_at}

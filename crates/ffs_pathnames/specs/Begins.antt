@@ -3,15 +3,15 @@ use Rattle.std.specs.Prelude.{◌≡◌, ℕ, List}
 use Rattle.ffs_volume.specs.{declared.Layout.Layout, Blocks.Inodes.inode_of}
 use Rattle.ffs_volume.specs.Directories.{Roles.roled_entries, Volumes.volume_of}
 use Rattle.ffs_workspace.specs.declared.workspace.Workspace.{Workspace}
-use Rattle.ffs_pathnames.specs.{declared.look.Examination.Examination, Gathers.passed_of, PassedNames.are_quiet}
+use Rattle.ffs_pathnames.specs.{declared.look.FirstLook.FirstLook, Gathers.passed_of, PassedNames.are_quiet}
 use Rattle.ffs_pathnames.specs.PassedNames.{after_looks}
 
 -- its inode is read, its entries were looked at, and each inode that belongs to it is stamped
-pub record IsDirectoryBegun (v : Layout) (b : List ℕ) (dir : ℕ) (old : Workspace) (e : Examination) (new : Workspace)
+pub record IsDirectoryBegun (v : Layout) (b : List ℕ) (dir : ℕ) (old : Workspace) (f : FirstLook) (new : Workspace)
     :
     Type 0 where
-  pub inode : e.inode ≡ inode_of v b dir
-  pub quiet : e.look.quiet ≡ are_quiet (volume_of v b) dir old.flags.items (passed_of old).stamps
+  pub inode : f.inode ≡ inode_of v b dir
+  pub quiet : f.chunks.quiet ≡ are_quiet (volume_of v b) dir old.flags.items (passed_of old).stamps
       (roled_entries (volume_of v b) dir)
   pub passed : passed_of new
       ≡ record {

@@ -13,7 +13,7 @@ use Rattle.ffs_workspace.specs.{Holds.{HoldsBlockCheck, HoldsSurvey}, Leaves.Lea
 use Rattle.ffs_pathnames.specs.{ChecksNeeded.ChecksLookedAt, Before.IsBefore, Gathers.passed_of, LineReads.again_reads}
 use Rattle.ffs_pathnames.specs.{LineReads.ReadsByLines, HeaderValues.{KnowsHeader, facts_lines}}
 use Rattle.ffs_pathnames.specs.{Moments.LinesMoment, PassedNames.{are_quiet, directory_reported}, Ready.LinesLeave}
-use Rattle.ffs_pathnames.specs.{Ready.DirectoryLeaves, declared.entry_texts.Checking.Checking}
+use Rattle.ffs_pathnames.specs.{Ready.DirectoryLeaves, declared.checking.Checking.Checking}
 use Rattle.ffs_pathnames.specs.{Tasks.DirectoryTask, declared.header.HeaderFacts.HeaderFacts}
 
 -- the lines on what was found of a directory before its entries are said, and the image is read for no more
@@ -22,10 +22,10 @@ use Rattle.ffs_pathnames.specs.{Tasks.DirectoryTask, declared.header.HeaderFacts
 pub record ReportsHeader {T : Type 0} (v : Layout) (h : HeaderFacts) (old new : LinesMoment KeptParent)
     (result : Result T RunFault) : Type 0 where
   pub text : PhaseReports (KnowsHeader v old.at.image old.at.workspace h)
-      (λ b. map of_tree (facts_lines (volume_of v b) h)) old.said new.said result
+      (λ b. map of_tree (facts_lines (volume_of v b) h)) old.report new.report result
   pub counted : ReadsByLines v (KnowsHeader v old.at.image old.at.workspace h) (λ b. facts_lines (volume_of v b) h)
       old.at new.at
-  pub paid : Paid line_reads old.said new.said old.at.reads new.at.reads result
+  pub paid : Paid line_reads old.report new.report old.at.reads new.at.reads result
   pub leaves : LinesLeave v old.at new.at new.kept result
 
 -- the lines of a task are said, by what is known of the bytes, and what it asks of the answer holds. The
@@ -33,11 +33,11 @@ pub record ReportsHeader {T : Type 0} (v : Layout) (h : HeaderFacts) (old new : 
 -- rest is read for the lines; of any image for no more than the messages that were begun
 pub record ReportsDirectory {T : Type 0} (v : Layout) (task : DirectoryTask T) (old new : LinesMoment Checking)
     (result : Result T RunFault) : Type 0 where
-  pub text : PhaseReports task.knows (λ b. map of_tree (task.lines b)) old.said new.said result
+  pub text : PhaseReports task.knows (λ b. map of_tree (task.lines b)) old.report new.report result
   pub reads : ForBytes task.knows (λ b. AreNoted v b old.at.workspace.queue.items
       → new.at.reads ≤ old.at.reads + (task.own_reads b + line_reads * length (task.lines b)))
   pub spends : ForBytes task.knows (λ b. old.kept.reads_left ≤ new.kept.reads_left + task.own_reads b)
-  pub paid : Paid line_reads old.said new.said (old.at.reads + old.kept.reads_left)
+  pub paid : Paid line_reads old.report new.report (old.at.reads + old.kept.reads_left)
       (new.at.reads + new.kept.reads_left) result
   pub holds : IfOk result (λ x. ForBytes task.knows (task.after x))
   pub leaves : DirectoryLeaves v old.at new.at new.kept.texts.kept_parent result
@@ -51,13 +51,13 @@ pub record ReportsDirectory {T : Type 0} (v : Layout) (task : DirectoryTask T) (
 pub record ReportsTree {T : Type 0} (v : Layout) (lines : Volume → List TreeMessage) (old new : LinesMoment (Unit {0}))
     (result : Result T RunFault) : Type 0 where
   pub text : PhaseReports (IsBefore v old.at.image.contents old.at.workspace 2)
-      (λ b. map of_tree (lines (volume_of v b))) old.said new.said result
+      (λ b. map of_tree (lines (volume_of v b))) old.report new.report result
   pub reads : ForBytes (IsBefore v old.at.image.contents old.at.workspace 2) (λ b.
       new.at.reads ≤ old.at.reads + (3 * directories_cost v b + line_reads * length (lines (volume_of v b))))
   pub looks : ForBytes (IsBefore v old.at.image.contents old.at.workspace 2) (λ b.
       ChecksLookedAt v b old.at.workspace → new.at.reads
       ≤ old.at.reads + (places_cost v b + looks_cost v b + line_reads * length (lines (volume_of v b))))
-  pub paid : Paid line_reads old.said new.said (old.at.reads + 3 * sweep_reads v) new.at.reads result
+  pub paid : Paid line_reads old.report new.report (old.at.reads + 3 * sweep_reads v) new.at.reads result
   pub image : ImageAfter old.at.image new.at.image result
   pub holds : OnOk result (ForBytes (IsBefore v old.at.image.contents old.at.workspace 2)
       (λ b. HoldsBlockCheck v b new.at.workspace × HoldsSurvey v b new.at.workspace))

@@ -15,7 +15,7 @@ use Rattle.ffs_pathnames.specs.Ready.{DirectoryLeaves}
 pub record SaysEntryLines {T : Type 0} (v : Layout) (dir : ℕ) (lines : Volume → List TreeMessage)
     (old new : LinesMoment EntryTexts) (result : Result T RunFault) : Type 0 where
   pub text : PhaseReports (KnowsPath v old.at.image.contents old.at.workspace dir old.kept)
-      (λ b. map of_tree (lines (volume_of v b))) old.said new.said result
+      (λ b. map of_tree (lines (volume_of v b))) old.report new.report result
   pub path : KeepsPath v old.at.image old.at.workspace dir old.kept new.kept
   pub settled : IsTrue old.kept.path_settled → IsTrue new.kept.path_settled
   pub once : ForBytes (DirectoryContext v old.at.image.contents old.at.workspace dir)
@@ -23,7 +23,7 @@ pub record SaysEntryLines {T : Type 0} (v : Layout) (dir : ℕ) (lines : Volume 
       → ReadsPathOnce (length (lines (volume_of v b))) old.kept new.kept old.at.reads new.at.reads)
   pub counted : ReadsByLines v (DirectoryContext v old.at.image.contents old.at.workspace dir)
       (λ b. lines (volume_of v b)) old.at new.at
-  pub paid : Paid line_reads old.said new.said old.at.reads new.at.reads result
+  pub paid : Paid line_reads old.report new.report old.at.reads new.at.reads result
 
 -- such lines are said, and all of the workspace but its windows stays
 pub record ReportsOneEntry {T : Type 0} (v : Layout) (dir : ℕ) (messages : Volume → List TreeMessage)

@@ -11,7 +11,7 @@
 -- first looks and second readings.
 --
 -- The first look at a directory: `StartChunks` is about its first chunk, `Looks` about the entries of a chunk,
--- `Examines` about all of it, `HeaderValues` about what is found, and is wrong, before its entries, `Begins`
+-- `DirectoryLooks` about all of it, `HeaderValues` about what is found, and is wrong, before its entries, `Begins`
 -- about what is known then.
 --
 -- Its second reading: `NextChunks` is about one chunk after another, `SaysTreeMessages` about saying a line,
@@ -34,7 +34,7 @@ pub mod Before
 pub mod ReadsLeft
 pub mod StartChunks
 pub mod Looks
-pub mod Examines
+pub mod DirectoryLooks
 pub mod HeaderValues
 pub mod Begins
 pub mod NextChunks

@@ -13,7 +13,7 @@ use Rattle.ffs_workspace.specs.declared.workspace.{Windows.Windows, Workspace.Wo
 -- come, and what is kept from one line to the next, as the texts of entries (`tt` where nothing is)
 pub record LinesMoment (K : Type 0) : Type 0 where
   pub at : WorkMoment
-  pub said : Progress
+  pub report : Progress
   pub kept : K
 
 -- the moment at which an image, a workspace and a report are these. I and W are what their types give to
@@ -21,7 +21,7 @@ pub record LinesMoment (K : Type 0) : Type 0 where
 abbrev pub lines_moment : {I W K : Type 0} → image.Ghosts I → output.Ghosts W → I → Workspace → Report W → K
     → LinesMoment K
 lines_moment I W image w report kept =
-    record { at = work_moment I image w; said = progress W.sink report; kept = kept }
+    record { at = work_moment I image w; report = progress W.sink report; kept = kept }
 
 -- a moment of a directory's second reading: the image, how often it was read by then, how many reads are
 -- left, the windows, and how far its chunks are read

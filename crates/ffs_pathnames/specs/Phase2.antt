@@ -15,7 +15,8 @@ use Rattle.ffs_pathnames.specs.{RootAnswers.SaidStop, declared.pass2.Root.{Root,
 
 -- what phase 2 leaves, by its answer.
 -- At Ok: the check continues after the root as the image's bytes say, and the workspace holds what the block check
--- and the survey found. Where the check stops after the root, the heading and the root's message were said.
+-- and the survey found, and the counts of references. Where the check stops after the root, the heading and the
+-- root's message were said.
 -- Where a read failed: the heading alone was said, or the check continues after the root. So a message is
 -- missing then, of phase 2 or of a later one.
 -- Where the output failed: what the block check found is held still
@@ -30,11 +31,12 @@ Phase2Ends v d w w' old new (Err (Read fault)) = Said old new (phase2 ∷ [])
     ⊎ ForBytes (WithClaims v d w) (λ bytes. continues_after_root (volume_of v bytes) ≡ true)
 Phase2Ends v d w w' old new (Err (Out fault)) = ForBytes (WithClaims v d w) (λ bytes. HoldsBlockCheck v bytes w')
 
--- An image that gives its bytes is read at most `pathname_reads` times. What a volume holds counts, too: its
--- directories are read for the survey, for the places of parent entries, and twice for the messages. Where the
--- survey is the first, those of which nothing can be reported, and that aren't marked, are not read for the
--- messages; and where there are no others, no places are noted either: each is read for the survey alone.
--- Where a survey was made before, none is made again. Where the check stops after the root, the survey alone reads
+-- Known bytes, of which the workspace holds what the block check found, are read at most `pathname_reads` times.
+-- What a volume holds counts, too: its directories are read for the survey, for the places of parent entries, and
+-- twice for the messages. Where the survey is the first, those of which nothing can be reported, and that aren't
+-- marked, are not read for the messages; and where there are no others, no places are noted either: each is read
+-- for the survey alone. Where a survey was made before, none is made again. Where the check stops after the root,
+-- the survey alone reads
 pub record Phase2Reads (v : Layout) (d : Device) (w : Workspace) (before after : ℕ) : Type 0 where
   pub known : ForBytes (WithClaims v d w) (λ bytes.
       after ≤ before + pathname_reads v (length (pathname_lines (volume_of v bytes))))

@@ -8,7 +8,7 @@ use Rattle.ffs_workspace.specs.declared.workspace.Workspace.{Workspace}
 use Rattle.ffs_pathnames.specs.{Before.IsBeforeNoted, Begins.IsDirectoryBegun, ChecksNeeded.KeepsFlags, Gathers.passed_of}
 use Rattle.ffs_pathnames.specs.{PassedNames.{after_directory, directory_reported}, PassedRight.RemembersBefore}
 use Rattle.ffs_pathnames.specs.ReadsLeft.{LeftForBoth, LeftForLook, LeftForNext, LeftForRuns}
-use Rattle.ffs_pathnames.specs.declared.look.{Directory.Directory, Examination.Examination}
+use Rattle.ffs_pathnames.specs.declared.look.{Directory.Directory, FirstLook.FirstLook}
 
 -- what is asked of a call for a directory: what it may know of the bytes, how often it reads the directory's
 -- own blocks at most, the lines that it says, and what holds of its answer then
@@ -39,12 +39,12 @@ sized_task v d w w' dir left = record {
 
 -- of `begin_directory`: the first look, which is one reading, and the lines before those of the entries. Then: what the
 -- look found, and stamps
-abbrev pub begin_task : Layout → Device → (w w' : Workspace) → (dir left : ℕ) → DirectoryTask Examination
+abbrev pub begin_task : Layout → Device → (w w' : Workspace) → (dir left : ℕ) → DirectoryTask FirstLook
 begin_task v d w w' dir left = record {
   knows = LeftForLook v d w dir left;
   own_reads = λ b. directory_cost v b dir;
   lines = λ b. dir_header_lines (volume_of v b) dir;
-  after = λ e b. IsDirectoryBegun v b dir w e w';
+  after = λ f b. IsDirectoryBegun v b dir w f w';
 }
 
 -- of `report_entries`: the second reading, of the Runs of a known inode, and the lines of the entries. Then these are

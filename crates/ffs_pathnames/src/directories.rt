@@ -9,10 +9,11 @@ ghost use Rattle.ffs_pathnames.specs.DirectoryLines.{ReadsQuietOnce, ReportsDire
 ghost use Rattle.ffs_pathnames.specs.{Tasks.{begin_task, check_task, sized_task}, Moments.lines_moment};
 ghost use Rattle.ffs_workspace.specs.{Ready.CanRead};
 
+use crate::checking::Checking;
 use crate::entries::report_entries;
-use crate::entry_texts::{Checking, EntryTexts};
+use crate::entry_texts::EntryTexts;
 use crate::header::{HeaderFacts, first_two, found_parent, report_header};
-use crate::look::{Directory, Examination, examine};
+use crate::look::{Directory, FirstLook, look_directory};
 use ffs_image::Image;
 use ffs_layout::Geometry;
 use ffs_names::note_places;
@@ -155,13 +156,13 @@ fn check_directory<I: Image, W: Output>(
         (lines_moment I.Image W.Output image.old workspace.old report.old checking.old)
         (lines_moment I.Image W.Output image.new workspace.new report.new checking.new) }
 {
-    let examined = begin_directory(geometry, image, workspace, checking, dir, report)?;
-    if examined.look.quiet {
+    let looked = begin_directory(geometry, image, workspace, checking, dir, report)?;
+    if looked.chunks.quiet {
         return Ok(());
     }
     let directory = Directory {
         number: dir,
-        inode: examined.inode,
+        inode: looked.inode,
         cut: workspace.noted_cut(dir),
     };
     report_entries(geometry, image, workspace, checking, &directory, report)
@@ -176,7 +177,7 @@ fn begin_directory<I: Image, W: Output>(
     checking: &mut Checking,
     dir: u32,
     report: &mut Report<'_, W>,
-) -> Result<Examination, RunFault>
+) -> Result<FirstLook, RunFault>
     requires { ReadyToCheck geometry.now.layout (I.device image.old) workspace.old
         checking.old.texts.kept_parent dir }
     ensures { ReportsDirectory geometry.now.layout
@@ -186,7 +187,7 @@ fn begin_directory<I: Image, W: Output>(
         (lines_moment I.Image W.Output image.new workspace.new report.new checking.new) result }
 {
     let mut start = [0u8; DIRBLKSIZ];
-    let examined = examine(
+    let looked = look_directory(
         geometry,
         image,
         workspace,
@@ -195,12 +196,12 @@ fn begin_directory<I: Image, W: Output>(
         &mut start,
     )?;
     let parent = found_parent(workspace, dir);
-    let (first, second) = first_two(geometry.layout.order, examined.look.started, &start);
+    let (first, second) = first_two(geometry.layout.order, looked.chunks.started, &start);
     let header = HeaderFacts {
-        attr: Attr::of(dir, &examined.inode),
+        attr: Attr::of(dir, &looked.inode),
         parent,
-        gap: examined.look.gap,
-        sound: examined.look.sound,
+        gap: looked.chunks.gap,
+        sound: looked.chunks.sound,
         first,
         second,
     };
@@ -212,5 +213,5 @@ fn begin_directory<I: Image, W: Output>(
         header,
         report,
     )?;
-    Ok(examined)
+    Ok(looked)
 }

@@ -5,7 +5,8 @@ ghost use Rattle.ffs_pathnames.specs.{Gathers.{roled_lines_by, roled_value}, Loo
 ghost use Rattle.ffs_pathnames.specs.{Ready.{ReadyToPath, ReadyToReport}, ReadsLeft.LeftForRuns, NextChunks.ReadsNext, Moments.{lines_moment, second_reading}};
 ghost use Rattle.ffs_pathnames.specs.{DirectoryLines.{ReadsForEntries, ReportsDirectory}, Tasks.entries_task, EntryLines.{PassesEntries, ReportsOneEntry}};
 
-use crate::entry_texts::{Checking, EntryTexts};
+use crate::checking::Checking;
+use crate::entry_texts::EntryTexts;
 use crate::gather::DirectoryEntry;
 use crate::inodes::Inodes;
 use crate::look::{Directory, DirectoryChunk};
@@ -109,7 +110,7 @@ fn next_chunk<I: Image>(
 ///
 /// # Errors
 /// A read of the image that failed, and a write of the report that failed.
-pub fn report_chunk<I: Image, W: Output>(
+fn report_chunk<I: Image, W: Output>(
     geometry: &Geometry,
     image: &mut I,
     workspace: &mut Workspace,
@@ -141,7 +142,7 @@ pub fn report_chunk<I: Image, W: Output>(
 ///
 /// # Errors
 /// A read of the image that failed, and a write of the report that failed.
-pub fn report_entry<I: Image, W: Output>(
+fn report_entry<I: Image, W: Output>(
     geometry: &Geometry,
     image: &mut I,
     workspace: &mut Workspace,

@@ -1,12 +1,11 @@
-//! What is carried from the check of one directory to that of the next: the texts that lines of
-//! entries show, with the paths of directories in them, and how many reads are left.
+//! The texts that lines of entries show, with the path of the directory that the entries are in: the
+//! first line makes that.
 ghost use Rattle.std.specs.Prelude.{◌≡◌, ℕ, List, Option};
 ghost use Rattle.ffs_volume.specs.declared.Layout.{Layout};
 ghost use Rattle.ffs_pathnames.specs.Ready.{ReadyToPath};
-ghost use Rattle.ffs_pathnames.specs.Gathers.{BeginsPath, MakesPath, MakesPathLimited, PutsPath, SparesPath};
-ghost use Rattle.ffs_workspace.specs.{declared.workspace.Workspace.Workspace as WorkspaceIn};
-ghost use Rattle.ffs_paths.specs.KeptParents.{HoldsKeptParent};
+ghost use Rattle.ffs_pathnames.specs.Gathers.{BeginsPath, MakesPath, MakesPathLimited, SparesPath};
 
+use crate::paths::forget_parent;
 use ffs_image::{Image, ImageFault, LimitedImage};
 use ffs_layout::Geometry;
 use ffs_paths::{DirectoryPath, EntryPaths, KeptParent, PathBuffer, PathText};
@@ -46,25 +45,6 @@ impl EntryTexts {
             shown_directory: PathText::new(),
         }
     }
-}
-
-/// What is carried from the check of one directory to that of the next.
-#[derive(Drop)]
-pub struct Checking {
-    /// The texts that lines of entries show.
-    pub texts: EntryTexts,
-    /// How many reads may still be made of directories' own blocks: their inodes, their indirect
-    /// blocks and their chunks. What a message shows is not among these.
-    pub reads_left: u64,
-}
-
-/// Keeps nothing of a parent any more.
-fn forget_parent(kept_parent: &mut KeptParent)
-    ensures { (v : Layout) (contents : Option (List ℕ)) (w : WorkspaceIn)
-        → HoldsKeptParent v contents w kept_parent.new }
-{
-    kept_parent.parent = 0;
-    kept_parent.child = 0;
 }
 
 /// As `make_path`, with no limit on reads. Its clause `spares` is the same, and by `makes` the
@@ -141,34 +121,4 @@ pub fn make_path_once<I: Image>(
         return Ok(());
     }
     make_path(geometry, image, workspace, texts, dir)
-}
-
-/// Writes the path of a directory. An image that gives other bytes each time may be read more often
-/// than a path reads at most: then no more is read, and the text stays.
-///
-/// # Errors
-/// A read of the image that failed.
-pub fn put_path<I: Image>(
-    geometry: &Geometry,
-    image: &mut I,
-    workspace: &mut Workspace,
-    kept_parent: &mut KeptParent,
-    dir: u32,
-    path: &mut PathText,
-) -> Result<(), ImageFault>
-    requires { ReadyToPath geometry.now.layout (I.device image.old) workspace.old kept_parent.old
-        dir }
-    ensures puts { PutsPath I.Image geometry.now.layout image.old image.new workspace.old
-        workspace.new dir path.new.items kept_parent.new result }
-    ensures spares { SparesPath I.Image geometry.now.layout image.old image.new workspace.old
-        workspace.new dir kept_parent.old kept_parent.new result }
-{
-    let mut limited_image = LimitedImage::new(image, PATH_READS);
-    let result = kept_parent.put_path(geometry, &mut limited_image, workspace, dir, path);
-    if limited_image.is_spent() {
-        // See `LimitedImage`: bytes that stay never ask for so many reads.
-        forget_parent(kept_parent);
-        return Ok(());
-    }
-    result
 }

@@ -7,7 +7,8 @@ ghost use Rattle.ffs_layout.specs.Entry.{entry_value};
 ghost use Rattle.ffs_workspace.specs.Ready.{CanRead};
 ghost use Rattle.ffs_paths.specs.Reads.{CanReadFor};
 
-use crate::entry_texts::{EntryTexts, make_path_once, put_path};
+use crate::entry_texts::{EntryTexts, make_path_once};
+use crate::paths::put_path;
 use ffs_image::{Image, ImageFault};
 use ffs_layout::{Entry, Geometry};
 use ffs_paths::{EntryPaths, KeptParent, PathText};

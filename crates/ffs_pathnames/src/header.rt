@@ -10,7 +10,7 @@ ghost use Rattle.ffs_pathnames.specs.HeaderValues.{AreFirstTwo, defects_of_facts
 ghost use Rattle.ffs_pathnames.specs.{SaysTreeMessages.SaysTreeMessages, Ready.ReadyToPath, DirectoryLines.ReportsHeader, Moments.lines_moment};
 ghost use Rattle.ffs_volume.specs.Directories.Graph as graph;
 
-use crate::entry_texts::put_path;
+use crate::paths::put_path;
 use crate::say::{LineIf, Phase2Line, say_line, say_two};
 use ffs_image::Image;
 use ffs_layout::{Entry, Geometry, entry_at};

@@ -14,11 +14,15 @@
 //! - `verdict` finds and says what is wrong with an entry, by that.
 //! - `look` reads a directory once: its inode, then its chunks, then their entries, by the verdict
 //!   on each.
-//! - `entry_texts` makes the paths of directories, and keeps them from one line to the next.
+//! - `paths` writes the path of a directory for one line, within a limit on reads.
+//! - `entry_texts` has the texts that lines of entries show, and makes the path of the directory that
+//!   the entries are in, once for all of its lines.
 //! - `header` finds and says what is wrong with a directory's size, its chunks and its first two
 //!   entries.
 //! - `gather` puts together what the lines of one entry show.
 //! - `one_entry` says these lines, by the verdict on it.
+//! - `checking` has what is carried from one directory to the next: these texts, and how many reads
+//!   are left for first looks and second readings.
 //! - `entries` reads a directory's chunks again where something is to be said of their entries.
 //! - `directories` goes over the directories by number, once the places of parent entries are noted
 //!   (`ffs_names::note_places`), and checks each that isn't known to be calm.
@@ -29,6 +33,7 @@
 //! It rests on `ffs_paths`, `ffs_names` and `ffs_report`.
 #![tactic(auto)]
 
+mod checking;
 mod directories;
 mod entries;
 mod entry_texts;
@@ -38,6 +43,7 @@ pub mod inodes;
 mod look;
 mod one_entry;
 mod pass2;
+mod paths;
 mod say;
 pub mod verdict;
 

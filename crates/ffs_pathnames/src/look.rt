@@ -1,14 +1,15 @@
 //! A first look at a directory, once over its chunks: whether it is sure that nothing is reported
 //! of its entries, whether each chunk is sound, and whether a hole is kept. It stamps the inodes
-//! that belong to the directory. `examine` reads the inode, and looks at the chunks within a limit.
+//! that belong to the directory. `look_directory` makes it within a limit on reads: it reads the
+//! inode, and looks at the chunks.
 ghost use Rattle.std.specs.Prelude.{◌≡◌, ◌+◌, ◌≤◌, ◌&&◌, true, false, List, [], ◌∷◌};
 ghost use Rattle.ffs_workspace.specs.Moments.{work_moment};
 ghost use Rattle.ffs_volume.specs.{Costs.DirectoryReads.{directory_cost, directory_runs}, declared.Order.Order};
 ghost use Rattle.ffs_volume.specs.{declared.Role.Role, Directories.{Entries.{Chunk, chunk_of, is_sound}, Roles.Volume}};
 ghost use Rattle.ffs_image.specs.Known.{ForBytes};
 ghost use Rattle.ffs_pathnames.specs.{DirectoryContext.{DirectoryContext, KnowsDirectory}};
-ghost use Rattle.ffs_pathnames.specs.{ReadsLeft.LeftForLook, Examines.{Examines, IsExamined, IsFirstLook, StampsOwn}};
-ghost use Rattle.ffs_pathnames.specs.{Examines.TakesLook, StartChunks.start_chunk, Looks.{StampsEntries, roled_in}};
+ghost use Rattle.ffs_pathnames.specs.{ReadsLeft.LeftForLook, DirectoryLooks.{IsChunksLook, IsFirstLook, LooksAt, StampsOwn}};
+ghost use Rattle.ffs_pathnames.specs.{DirectoryLooks.TakesLook, StartChunks.start_chunk, Looks.{StampsEntries, roled_in}};
 ghost use Rattle.ffs_pathnames.specs.{Ready.{ReadyToLook, ReadyToRead}, Sees.{CanLook, CanStamp, Sees, stamps_in}};
 ghost use Rattle.ffs_layout.specs.Entry.{entry_value};
 ghost use Rattle.ffs_pathnames.specs.PassedNames as names;
@@ -34,47 +35,48 @@ pub struct Directory {
     pub cut: u32,
 }
 
-/// What a first look at a directory finds.
+/// What a look at all chunks of a directory finds.
 #[derive(Clone, Copy, Debug)]
-pub struct FirstLook {
-    /// Whether it is sure that nothing is reported of its entries.
+pub struct ChunksLook {
+    /// Whether it is sure that nothing is reported of their entries.
     pub quiet: bool,
-    /// Whether all its chunks are sound.
+    /// Whether all of them are sound.
     pub sound: bool,
-    /// Whether a hole is among its kept steps.
+    /// Whether a hole is among the kept steps of the directory.
     pub gap: bool,
     /// Whether a chunk is at the start of the file.
     pub started: bool,
 }
 
-/// What an examination of a directory finds, before anything is reported of it.
+/// What a first look at a directory finds, before anything is reported of it.
 #[derive(Clone, Copy, Debug)]
-pub struct Examination {
+pub struct FirstLook {
     /// Its inode.
     pub inode: Inode,
-    /// What a first look at its chunks found.
-    pub look: FirstLook,
+    /// What its chunks show.
+    pub chunks: ChunksLook,
 }
 
-/// Examines a directory, stamps the inodes that belong to it, and puts the chunk at the start of
-/// the file into `start`, if one is there. `reads_left` is how many reads may be made of
-/// directories' own blocks; it falls by those that are made. Only an image that gives other bytes
-/// each time asks for more: the result is then that of `unexamined`.
+/// Looks at a directory for the first time: reads its inode, looks at its chunks once, stamps the
+/// inodes that belong to it, and puts the chunk at the start of the file into `start`, if one is
+/// there. `reads_left` is how many reads may be made of directories' own blocks; it falls by those
+/// that are made. Only an image that gives other bytes each time asks for more: the result is then
+/// that of `refused_look`.
 ///
 /// # Errors
 /// A read of the image that failed.
-pub fn examine<I: Image>(
+pub fn look_directory<I: Image>(
     geometry: &Geometry,
     image: &mut I,
     workspace: &mut Workspace,
     reads_left: &mut u64,
     dir: u32,
     start: &mut [u8; DIRBLKSIZ],
-) -> Result<Examination, ImageFault>
+) -> Result<FirstLook, ImageFault>
     requires { ReadyToLook geometry.now.layout (I.device image.old) workspace.old dir }
-    ensures examines { Examines geometry.now.layout
+    ensures looks { LooksAt geometry.now.layout
         (LeftForLook geometry.now.layout (I.device image.old) workspace.old dir reads_left.old)
-        (λ e b. IsExamined geometry.now.layout b dir workspace.old e start.new
+        (λ f b. IsFirstLook geometry.now.layout b dir workspace.old f start.new
         × StampsOwn geometry.now.layout b dir workspace.old workspace.new)
         (work_moment I.Image image.old workspace.old) (work_moment I.Image image.new workspace.new)
         result }
@@ -84,27 +86,27 @@ pub fn examine<I: Image>(
         (I.reads image.old) (I.reads image.new) reads_left.old reads_left.new }
 {
     let mut limited = LimitedImage::new(image, *reads_left);
-    let examined = examine_unlimited(geometry, &mut limited, workspace, dir, start);
+    let looked = look_directory_unlimited(geometry, &mut limited, workspace, dir, start);
     *reads_left = limited.left();
     if limited.is_spent() {
         // See `LimitedImage`: bytes that stay never ask for so many reads.
-        return Ok(unexamined());
+        return Ok(refused_look());
     }
-    examined
+    looked
 }
 
-/// As `examine`, with no limit on reads: so no clause speaks of reads that are left.
-fn examine_unlimited<I: Image>(
+/// As `look_directory`, with no limit on reads: so no clause speaks of reads that are left.
+fn look_directory_unlimited<I: Image>(
     geometry: &Geometry,
     image: &mut I,
     workspace: &mut Workspace,
     dir: u32,
     start: &mut [u8; DIRBLKSIZ],
-) -> Result<Examination, ImageFault>
+) -> Result<FirstLook, ImageFault>
     requires { ReadyToLook geometry.now.layout (I.device image.old) workspace.old dir }
-    ensures examines { Examines geometry.now.layout
+    ensures looks { LooksAt geometry.now.layout
         (DirectoryContext geometry.now.layout (I.device image.old).contents workspace.old dir)
-        (λ e b. IsExamined geometry.now.layout b dir workspace.old e start.new
+        (λ f b. IsFirstLook geometry.now.layout b dir workspace.old f start.new
         × StampsOwn geometry.now.layout b dir workspace.old workspace.new)
         (work_moment I.Image image.old workspace.old) (work_moment I.Image image.new workspace.new)
         result }
@@ -118,23 +120,23 @@ fn examine_unlimited<I: Image>(
         inode,
         cut: workspace.noted_cut(dir),
     };
-    let look = look_directory(geometry, image, workspace, &directory, start)?;
-    Ok(Examination { inode, look })
+    let chunks = look_chunks(geometry, image, workspace, &directory, start)?;
+    Ok(FirstLook { inode, chunks })
 }
 
 /// What is said of a directory of which no more may be read: that it is too short, is corrupted,
 /// and has neither `.` nor `..`. Nothing is said of its entries. Only an image that gives other
 /// bytes each time comes so far. A line is said, since silence would pass the directory as right:
 /// each line of phase 2 is a defect, so the check doesn't end as consistent.
-fn unexamined() -> Examination
-    ensures { result.look ≡ record {
+fn refused_look() -> FirstLook
+    ensures { result.chunks ≡ record {
       quiet = true;
       sound = false;
       gap = false;
       started = false;
     } }
 {
-    Examination {
+    FirstLook {
         inode: Inode {
             mode: 0,
             nlink: 0,
@@ -144,7 +146,7 @@ fn unexamined() -> Examination
             blocks: 0,
             uid: 0,
         },
-        look: FirstLook {
+        chunks: ChunksLook {
             quiet: true,
             sound: false,
             gap: false,
@@ -153,22 +155,23 @@ fn unexamined() -> Examination
     }
 }
 
-/// Looks at a directory once: at its entries, its chunks, its holes, and the chunk at the start of
-/// the file, which is put into `start`. The inodes that belong to it are stamped.
+/// Looks at the chunks of a directory once: at their entries, at holes, and at the chunk at the
+/// start of the file, which is put into `start`. The inodes that belong to the directory are
+/// stamped.
 ///
 /// # Errors
 /// A read of the image that failed.
-pub fn look_directory<I: Image>(
+fn look_chunks<I: Image>(
     geometry: &Geometry,
     image: &mut I,
     workspace: &mut Workspace,
     directory: &Directory,
     start: &mut [u8; DIRBLKSIZ],
-) -> Result<FirstLook, ImageFault>
+) -> Result<ChunksLook, ImageFault>
     requires { ReadyToRead geometry.now.layout (I.device image.old) workspace.old directory.now }
-    ensures looks { Examines geometry.now.layout
+    ensures looks { LooksAt geometry.now.layout
         (KnowsDirectory geometry.now.layout (I.device image.old) workspace.old directory.now)
-        (λ f b. IsFirstLook geometry.now.layout b directory.now.number workspace.old f start.new
+        (λ c b. IsChunksLook geometry.now.layout b directory.now.number workspace.old c start.new
         × StampsOwn geometry.now.layout b directory.now.number workspace.old workspace.new)
         (work_moment I.Image image.old workspace.old) (work_moment I.Image image.new workspace.new)
         result }
@@ -209,7 +212,7 @@ pub fn look_directory<I: Image>(
         started = keep_start(offset, &bytes, started, start);
     }
     let gap = gap_of(image, &mut windows.blocks, &mut chunks)?;
-    Ok(FirstLook {
+    Ok(ChunksLook {
         quiet,
         sound,
         gap,
@@ -248,15 +251,15 @@ pub struct DirectoryChunk<'a> {
 
 /// What a look at the entries of a chunk finds.
 #[derive(Clone, Copy, Debug)]
-pub struct ChunkLook {
+struct ChunkLook {
     /// Whether it is sure that nothing is reported of them.
-    pub quiet: bool,
+    quiet: bool,
     /// Whether they fill the chunk.
-    pub sound: bool,
+    sound: bool,
 }
 
 /// Looks at the entries of a chunk of a directory, and stamps the inodes that belong to that.
-pub fn look_chunk(
+fn look_chunk(
     inodes: &Inodes<'_>,
     order: Order,
     flags: &FilledList<bool>,

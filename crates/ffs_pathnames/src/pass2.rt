@@ -41,19 +41,21 @@ pub enum Root {
 /// (fsck(8), phase 2). Returns whether the check continues after the root.
 ///
 /// The contract gives the text only for a workspace that holds what the block check found. At `Ok`
-/// the workspace holds what the survey found.
+/// such a workspace holds what the survey found, too.
 ///
-/// An image that gives its bytes is read at most `pathname_reads` times, also where a read failed.
-/// One that gives other bytes each time is read no more than four sweeps, and `line_reads` for each
-/// message that was begun. Where no survey was made before, a directory of which nothing can be
-/// reported isn't read for the messages, unless it is marked (`phase2_cost`, and `looked_at` of
-/// `Phase2Reads`); where one was made, none is made again (`surveyed_before`). Where the check stops
-/// after the root, only the survey reads (`stopped` there).
+/// Any image is read no more than four sweeps, and `line_reads` for each message that was begun.
+/// Known bytes, of which the workspace holds what the block check found, are read at most
+/// `pathname_reads` times, also where a read failed. Of these, too: where no survey was made
+/// before, a directory of which nothing can be reported isn't read for the messages, unless it is
+/// marked (`phase2_cost`, and `looked_at` of `Phase2Reads`); where one was made, none is made again
+/// (`surveyed_before`); and where the check stops after the root, only the survey reads
+/// (`stopped`).
 ///
 /// # Errors
 /// A read of the image that failed, and a write of the report that failed. Where it was a write, or
 /// the workspace says `surveyed` then, phase 2 can be called again: all that it needs is held
-/// still. Of known bytes the workspace says so unless nothing but the heading was begun.
+/// still. Of bytes that are known as above, the workspace says so unless nothing but the heading
+/// was begun.
 pub fn phase2<I: Image, W: Output>(
     geometry: &Geometry,
     image: &mut I,
@@ -81,8 +83,9 @@ pub fn phase2<I: Image, W: Output>(
     // references.
     ensures block_check { LeavesBlockCheck workspace.old workspace.new }
 
-    // Of bytes that are known the survey counts as made then, unless nothing but the heading was
-    // begun before a fault. One that was made before counts as made in any case.
+    // Of known bytes, of which the workspace held what the block check found, the survey counts as
+    // made then, unless nothing but the heading was begun before a fault. One that was made before
+    // counts as made in any case.
     ensures surveyed { workspace.new.surveyed ≡ false → (workspace.old.surveyed ≡ false) × ForBytes
         (WithClaims geometry.now.layout (I.device image.old) workspace.old)
         (λ bytes. IsErr result × SaysBeforeFault (messages.phase2 ∷ [])
@@ -96,7 +99,7 @@ pub fn phase2<I: Image, W: Output>(
 {
     report.say(&Line::Heading(Heading::Phase2))?;
     survey(geometry, image, workspace)?;
-    clear_passed(workspace);
+    clear_passed_and_windows(workspace);
     check_tree(geometry, image, workspace, report)
 }
 
@@ -105,7 +108,7 @@ pub fn phase2<I: Image, W: Output>(
 /// 0, as the survey left it: no parent entry's place is noted, and none is due. The survey's flags
 /// of other inodes stay, and say which directories are calm: these are left out. The windows hold
 /// nothing.
-pub fn clear_passed(workspace: &mut Workspace)
+fn clear_passed_and_windows(workspace: &mut Workspace)
     requires lists { HasInodeLists workspace.old }
     requires unnoted { (x : ℕ) → slice_index workspace.old.queue.items x ≡ 0 }
     ensures { IsNonePassed workspace.old workspace.new }

@@ -28,7 +28,7 @@ use ffs_report::{EntryLine, OutFault, Output, Report};
 use ffs_volume::constants::{
     DT_BLK, DT_CHR, DT_FIFO, DT_LNK, DT_REG, DT_SOCK, DT_WHT, ROOTINO, WINO,
 };
-pub use ffs_volume::verdict::{EntryDefects, Verdict};
+use ffs_volume::verdict::{EntryDefects, Verdict};
 use ffs_volume::{Attr, Role};
 use ffs_workspace::without_due;
 

@@ -7,7 +7,7 @@ use Rattle.ffs_volume.specs.{Directories.{PathnameCheck.header_lines, Paths.dir_
 use Rattle.ffs_volume.specs.{Costs.DirectoryReads.directory_cost, Encodings.Places.AreNoted}
 use Rattle.ffs_report.proofs.{Reporting.{of_begins, of_reads}, Paying.{paid_answer, paid_failed, paid_beside}}
 use Rattle.ffs_report.proofs.Paying.{paid_fault, paid_none, paid_then}
-use Rattle.ffs_pathnames.specs.{ReadsLeft.LeftForLook, declared.look.Examination.Examination}
+use Rattle.ffs_pathnames.specs.{ReadsLeft.LeftForLook, declared.look.FirstLook.FirstLook}
 use Rattle.ffs_pathnames.{specs.DirectoryContext.DirectoryContext, proofs.{Passing.knows_on, Begun.said_same}}
 use Rattle.ffs_pathnames.proofs.{Begun.{fault_same, image_same, starts_are, begun_is}, StampLaws.windows_keep}
 use Rattle.ffs_pathnames.proofs.{StampLaws.{keep_more, noted_kept}, directories.begin_directory.Given.Over}
@@ -23,29 +23,29 @@ Known g c = LeftForLook c.args.geometry.now.layout (g.I.Image.device c.args.imag
 
 -- what is known before the lines are printed
 known : (g : Over) (c : After-report_header g) (b : List ℕ) → Known g c b →
-    DirectoryContext c.args.geometry.now.layout (g.I.Image.device c.examine.new.image).contents c.examine.new.workspace
-    c.of.result.number b × (c.of.result ≡ attributes_of c.of.result.number
+    DirectoryContext c.args.geometry.now.layout (g.I.Image.device c.look_directory.new.image).contents
+    c.look_directory.new.workspace c.of.result.number b × (c.of.result ≡ attributes_of c.of.result.number
     (inode_of c.args.geometry.now.layout b c.of.result.number))
 known g c b k = rw c.of.ensures (
-  knows_on c.args.geometry.now.layout _ _ c.args.workspace.now c.examine.new.workspace c.args.dir b
-      (ap (λ d. d.contents) c.in_ok-examined.ensures.examines.leaves.read) c.in_ok-examined.ensures.examines.leaves.lists.survey
-      c.in_ok-examined.ensures.examines.leaves.lists.places k.0,
-  ap (attributes_of c.args.dir) (c.in_ok-examined.ensures.examines.found b k).0.inode,
+  knows_on c.args.geometry.now.layout _ _ c.args.workspace.now c.look_directory.new.workspace c.args.dir b
+      (ap (λ d. d.contents) c.in_ok-looked.ensures.looks.leaves.read) c.in_ok-looked.ensures.looks.leaves.lists.survey
+      c.in_ok-looked.ensures.looks.leaves.lists.places k.0,
+  ap (attributes_of c.args.dir) (c.in_ok-looked.ensures.looks.found b k).0.inode,
 )
 
 -- the lines are the directory's
 lines_are : (g : Over) (c : After-report_header g) (b : List ℕ) → Known g c b →
     header_lines (header_defects c.of.result.number c.of.result.size c.found_parent-parent.result
-    c.in_ok-examined.examined.look.gap c.in_ok-examined.examined.look.sound
+    c.in_ok-looked.looked.chunks.gap c.in_ok-looked.looked.chunks.sound
     (option_map entry_value c.first_two.result.0) (option_map entry_value c.first_two.result.1))
     (attributes (volume_of c.args.geometry.now.layout b) c.of.result.number)
     (dir_path (graph_of (volume_of c.args.geometry.now.layout b)) c.of.result.number)
     ≡ dir_header_lines (volume_of c.args.geometry.now.layout b) c.args.dir
 lines_are g c b k =
     let v = c.args.geometry.now.layout in
-    rw c.of.ensures (starts_are v b c.args.dir c.args.workspace.now c.in_ok-examined.examined _ _ _ _
-    (c.in_ok-examined.ensures.examines.found b k).0 (c.found_parent-parent.ensures v b
-    (survey_left v b _ _ c.in_ok-examined.ensures.examines.leaves.lists.survey k.0.survey))
+    rw c.of.ensures (starts_are v b c.args.dir c.args.workspace.now c.in_ok-looked.looked _ _ _ _
+    (c.in_ok-looked.ensures.looks.found b k).0 (c.found_parent-parent.ensures v b
+    (survey_left v b _ _ c.in_ok-looked.ensures.looks.leaves.lists.survey k.0.survey))
     c.first_two.ensures)
 
 -- the reads
@@ -55,24 +55,24 @@ reads_few : (g : Over) (c : After-report_header g) (b : List ℕ) → Known g c 
     + (directory_cost c.args.geometry.now.layout b c.args.dir
     + line_reads * length (dir_header_lines (volume_of c.args.geometry.now.layout b) c.args.dir))
 reads_few g c b k noted =
-    let lists = c.in_ok-examined.ensures.examines.leaves.lists in
-    let examined = c.examine.ensures.cost.reads b k.0 in
+    let lists = c.in_ok-looked.ensures.looks.leaves.lists in
+    let own = c.look_directory.ensures.cost.reads b k.0 in
     let said = (c.report_header.ensures.counted b (known g c b k)
-    (noted_kept c.args.geometry.now.layout b _ c.examine.new.workspace.queue.items lists.places noted)).count in
+    (noted_kept c.args.geometry.now.layout b _ c.look_directory.new.workspace.queue.items lists.places noted)).count in
     let now = rw (lines_are g c b k) at said in
-    omega (arith, examined, now)
+    omega (arith, own, now)
 
 pub report_header-requires : goal.report_header-requires
 report_header-requires g c = grind (arith, kept_parent_on)
 
-pub examine-requires : goal.examine-requires
-examine-requires g c = grind arith
+pub look_directory-requires : goal.look_directory-requires
+look_directory-requires g c = grind arith
 
 -- a read failed
-pub returns-in_err-examined : goal.returns-in_err-examined
-returns-in_err-examined g c =
-    let looks = c.in_err-examined.ensures in
-    let left = looks.examines.leaves in
+pub returns-in_err-looked : goal.returns-in_err-looked
+returns-in_err-looked g c =
+    let looks = c.in_err-looked.ensures in
+    let left = looks.looks.leaves in
     let p = err_from_is_err_and c.from_residual.result c.from_residual.ensures.1 in
     rw (p.1, p.2) (record {
       text = of_reads _ _ _ _ _ (of_begins _ _ _);
@@ -91,25 +91,25 @@ returns-in_err-examined g c =
 pub returns-in_err-report_header : goal.returns-in_err-report_header
 returns-in_err-report_header g c =
     let at = (goal.at.returns-in_err-report_header g c).After-report_header in
-    let looks = c.in_ok-examined.ensures in
-    let lists = looks.examines.leaves.lists in
+    let looks = c.in_ok-looked.ensures in
+    let lists = looks.looks.leaves.lists in
     let said = c.in_err-report_header.ensures in
     let p = err_from_is_err_and c.from_residual-in_err-report_header.result
     c.from_residual-in_err-report_header.ensures.1 in
     rw (p.1, p.2) (record {
-      text = fault_same (Unit {0}) Examination _ _ _ _ _ _ c.in_err-report_header.field-0.0
+      text = fault_same (Unit {0}) FirstLook _ _ _ _ _ _ c.in_err-report_header.field-0.0
           (known g at) (λ b k. ap (map of_tree) (lines_are g at b k)) said.text;
       reads = reads_few g at;
       spends = λ b k. looks.cost.spends b k.0;
       paid = paid_fault c.in_err-report_header.field-0.0
           (paid_then (paid_none {T = Unit {0}} {x = tt} looks.cost.most)
-          (paid_beside c.examine.new.reads_left said.paid));
+          (paid_beside c.look_directory.new.reads_left said.paid));
       holds = tt;
       leaves = record {
-        image = image_same (Unit {0}) Examination _ _ _ c.in_err-report_header.field-0.0 looks.examines.leaves.read
+        image = image_same (Unit {0}) FirstLook _ _ _ c.in_err-report_header.field-0.0 looks.looks.leaves.read
             said.leaves.image;
         survey = leaves_more _ _ _ lists.survey (windows_leave _ _ said.leaves.lists);
-        places = keep_more _ _ _ lists.places (windows_keep c.examine.new.workspace c.report_header.new.workspace
+        places = keep_more _ _ _ lists.places (windows_keep c.look_directory.new.workspace c.report_header.new.workspace
             said.leaves.lists);
         ready = said.leaves.ready;
       };
@@ -118,22 +118,22 @@ returns-in_err-report_header g c =
 pub returns : goal.returns
 returns g c =
     let at = (goal.at.returns g c).After-report_header in
-    let looks = c.in_ok-examined.ensures in
-    let lists = looks.examines.leaves.lists in
+    let looks = c.in_ok-looked.ensures in
+    let lists = looks.looks.leaves.lists in
     let said = c.in_ok-report_header.ensures in
     record {
       text = said_same _ _ _ _ _ _ (known g at) (λ b k. ap (map of_tree) (lines_are g at b k)) said.text;
       reads = reads_few g at;
       spends = λ b k. looks.cost.spends b k.0;
       paid = paid_answer (paid_then (paid_none {T = Unit {0}} {x = tt} looks.cost.most)
-          (paid_beside c.examine.new.reads_left said.paid));
+          (paid_beside c.look_directory.new.reads_left said.paid));
       holds = λ b k.
-          begun_is c.args.geometry.now.layout b c.args.dir c.args.workspace.now c.examine.new.workspace _
-          c.in_ok-examined.examined _ (looks.examines.found b k) lists said.leaves.lists;
+          begun_is c.args.geometry.now.layout b c.args.dir c.args.workspace.now c.look_directory.new.workspace _
+          c.in_ok-looked.looked _ (looks.looks.found b k) lists said.leaves.lists;
       leaves = record {
-        image = said.leaves.image ∙ looks.examines.leaves.read;
+        image = said.leaves.image ∙ looks.looks.leaves.read;
         survey = leaves_more _ _ _ lists.survey (windows_leave _ _ said.leaves.lists);
-        places = keep_more _ _ _ lists.places (windows_keep c.examine.new.workspace c.report_header.new.workspace
+        places = keep_more _ _ _ lists.places (windows_keep c.look_directory.new.workspace c.report_header.new.workspace
             said.leaves.lists);
         ready = said.leaves.ready;
       };

@@ -7,7 +7,7 @@ use Rattle.ffs_volume.specs.Costs.DirectoryReads.{directory_cost, directory_runs
 use Rattle.ffs_report.{specs.PhaseOutcome.ImageAfter, proofs.Reporting.{of_begins, of_part, of_fault, of_last}}
 use Rattle.ffs_report.proofs.{Reporting.{said_knows, reports_knowing}, Paying.{paid_answer, paid_fault, paid_then}}
 use Rattle.ffs_workspace.{specs.declared.workspace.Workspace.Workspace, proofs.Leaving.leaves_more}
-use Rattle.ffs_pathnames.specs.{declared.look.Examination.Examination, Gathers.passed_of, PassedNames.PassedNames}
+use Rattle.ffs_pathnames.specs.{declared.look.FirstLook.FirstLook, Gathers.passed_of, PassedNames.PassedNames}
 use Rattle.ffs_pathnames.{specs.PassedNames.{entries_reported, is_flagged}, proofs.Begun.{image_same, said_same}}
 use Rattle.ffs_pathnames.proofs.Begun.{directory_is, lines_parts, quiet_parts, reported_parts, quiet_after}
 use Rattle.ffs_pathnames.proofs.{Begun.{reported_after, starts_within}, Passing.knows_on, StampLaws.keep_more}
@@ -32,16 +32,16 @@ second : (g : Over) (c : After-report_entries g) (b : List ℕ) →
     c.args.checking.now.reads_left b →
     LeftForRuns c.args.geometry.now.layout (g.I.Image.device c.begin_directory.new.image)
     c.begin_directory.new.workspace
-    (record { number = c.args.dir; inode = c.in_ok-examined.examined.inode; cut = c.noted_cut.result })
+    (record { number = c.args.dir; inode = c.in_ok-looked.looked.inode; cut = c.noted_cut.result })
     c.begin_directory.new.checking.reads_left b
 second g c b k =
     let v = c.args.geometry.now.layout in
     let kept = c.begin_directory.ensures.spends b (first k) in
-    let left = c.in_ok-examined.ensures.leaves in (
+    let left = c.in_ok-looked.ensures.leaves in (
       (
         knows_on v _ _ c.args.workspace.now c.begin_directory.new.workspace c.args.dir b
             (ap (λ d. d.contents) left.image) left.survey left.places k.knows,
-        (c.in_ok-examined.ensures.holds b (first k)).inode,
+        (c.in_ok-looked.ensures.holds b (first k)).inode,
       ),
       omega (arith, k.enough, kept, cost_of_dir v b c.args.dir k.knows.dir),
     )
@@ -49,38 +49,38 @@ second g c b k =
 pub report_entries-requires : goal.report_entries-requires
 report_entries-requires g c = grind arith
 
-pub returns-in_err-examined-clause-lines : goal.returns-in_err-examined-clause-lines
-returns-in_err-examined-clause-lines g c =
-    let at = (goal.at.returns-in_err-examined-clause-lines g c).After-begin_directory in
-    let begun = c.in_err-examined.ensures in
+pub returns-in_err-looked-clause-lines : goal.returns-in_err-looked-clause-lines
+returns-in_err-looked-clause-lines g c =
+    let at = (goal.at.returns-in_err-looked-clause-lines g c).After-begin_directory in
+    let begun = c.in_err-looked.ensures in
     let left = begun.leaves in
     let p = err_from_is_err_and c.from_residual.result c.from_residual.ensures.1 in
     rw (p.1, p.2) (record {
-      text = of_fault Examination (Unit {0}) _ _ _ _ _ _ _ _ c.in_err-examined.field-0.0 (of_begins _ _ _)
+      text = of_fault FirstLook (Unit {0}) _ _ _ _ _ _ _ _ c.in_err-looked.field-0.0 (of_begins _ _ _)
           (λ b k. lines_parts (volume_of c.args.geometry.now.layout b) c.args.dir _ refl)
-          (reports_knowing Examination _ _ _ _ _ (Err c.in_err-examined.field-0.0) (λ b k. first k) begun.text);
+          (reports_knowing FirstLook _ _ _ _ _ (Err c.in_err-looked.field-0.0) (λ b k. first k) begun.text);
       reads = λ b k noted.
           let within = mul-le-mul_left line_reads (starts_within (volume_of c.args.geometry.now.layout b) c.args.dir) in
           omega (arith, begun.reads b (first k) noted, within);
       spends = λ b k. omega (arith, begun.spends b (first k));
-      paid = paid_fault c.in_err-examined.field-0.0 begun.paid;
+      paid = paid_fault c.in_err-looked.field-0.0 begun.paid;
       holds = tt;
       leaves = record {
-        image = image_same Examination (Unit {0}) _ _ _ c.in_err-examined.field-0.0 refl left.image;
+        image = image_same FirstLook (Unit {0}) _ _ _ c.in_err-looked.field-0.0 refl left.image;
         survey = left.survey;
         places = left.places;
         ready = left.ready;
       };
     })
 
-pub returns-then-examined-clause-lines : goal.returns-then-examined-clause-lines
-returns-then-examined-clause-lines g c =
-    let at = (goal.at.returns-then-examined-clause-lines g c).After-begin_directory in
+pub returns-then-looked-clause-lines : goal.returns-then-looked-clause-lines
+returns-then-looked-clause-lines g c =
+    let at = (goal.at.returns-then-looked-clause-lines g c).After-begin_directory in
     let v = c.args.geometry.now.layout in
     let m = passed_of c.args.workspace.now in
-    let begun = c.in_ok-examined.ensures in
+    let begun = c.in_ok-looked.ensures in
     let left = begun.leaves in
-    let quiet = λ (b : List ℕ) (k : Known g at b). sym (begun.holds b (first k)).quiet ∙ c.if-examined.true in
+    let quiet = λ (b : List ℕ) (k : Known g at b). sym (begun.holds b (first k)).quiet ∙ c.if-looked.true in
     record {
       text = said_same _ _ _ _ _ _ (λ b k. first k)
           (λ b k. quiet_parts (volume_of v b) c.args.dir m
@@ -103,7 +103,7 @@ returns-clause-lines g c =
     let v = c.args.geometry.now.layout in
     let before = passed_of c.args.workspace.now in
     let m = passed_of c.begin_directory.new.workspace in
-    let one = c.in_ok-examined.ensures in
+    let one = c.in_ok-looked.ensures in
     let two = c.report_entries.ensures.lines in
     let second_of = second g at.After-report_entries in
     let dir = λ (b : List ℕ) (k : Known g at.After-begin_directory b).
@@ -146,12 +146,12 @@ returns-clause-lines g c =
     }
 
 -- ---- how often it is read where the first look is enough
-pub returns-in_err-examined-clause-quiet : goal.returns-in_err-examined-clause-quiet
-returns-in_err-examined-clause-quiet g c = λ b k noted quiet. c.in_err-examined.ensures.reads b (first k) noted
+pub returns-in_err-looked-clause-quiet : goal.returns-in_err-looked-clause-quiet
+returns-in_err-looked-clause-quiet g c = λ b k noted quiet. c.in_err-looked.ensures.reads b (first k) noted
 
-pub returns-then-examined-clause-quiet : goal.returns-then-examined-clause-quiet
-returns-then-examined-clause-quiet g c = λ b k noted quiet. c.in_ok-examined.ensures.reads b (first k) noted
+pub returns-then-looked-clause-quiet : goal.returns-then-looked-clause-quiet
+returns-then-looked-clause-quiet g c = λ b k noted quiet. c.in_ok-looked.ensures.reads b (first k) noted
 
 pub returns-clause-quiet : goal.returns-clause-quiet
 returns-clause-quiet g c = λ b k noted quiet.
-    absurd (both_ways _ c.if-examined.false ((c.in_ok-examined.ensures.holds b (first k)).quiet ∙ quiet))
+    absurd (both_ways _ c.if-looked.false ((c.in_ok-looked.ensures.holds b (first k)).quiet ∙ quiet))

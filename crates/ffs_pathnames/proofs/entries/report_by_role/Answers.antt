@@ -9,7 +9,7 @@ use Rattle.ffs_pathnames.proofs.entries.report_by_role.Goals as goal
 -- where there is no line, nothing changes
 nothing_said : {v : Layout} {at : WorkMoment} {x : ℕ} {t : EntryTexts} {lines : Volume → List TreeMessage}
     {said : Progress} → ReadyToPath v at.image at.workspace t.kept_parent x → ((vol : Volume) → lines vol ≡ []) →
-    let now : LinesMoment EntryTexts = record { at = at; said = said; kept = t } in
+    let now : LinesMoment EntryTexts = record { at = at; report = said; kept = t } in
     ReportsOneEntry {T = Unit {0}} v x lines now now (Ok tt)
 nothing_said r none = grind (arith, says_none, paid_none)
 

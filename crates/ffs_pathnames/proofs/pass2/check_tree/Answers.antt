@@ -94,7 +94,7 @@ only_said : {T : Type 0} {v : Layout} {d : Device} {w : Workspace} {lines : Volu
     {said said' : Progress} {count : ℕ} (r : Result T RunFault) → ImageAfter d d r → CanRead v d w →
     PhaseReports (IsBefore v d.contents w 2) (λ b. map of_tree (lines (volume_of v b))) said said' r →
     let at : WorkMoment = record { image = d; reads = count; workspace = w } in
-    ReportsTree v lines (record { at = at; said = said; kept = tt }) (record { at = at; said = said'; kept = tt }) r
+    ReportsTree v lines (record { at = at; report = said; kept = tt }) (record { at = at; report = said'; kept = tt }) r
 only_said {w = w} r image ready text = let kept = findings_kept w in grind (arith, paid_text)
 
 pub returns-in_err-report_root-clause-tree : goal.returns-in_err-report_root-clause-tree

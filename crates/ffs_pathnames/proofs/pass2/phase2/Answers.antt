@@ -24,11 +24,12 @@ use Rattle.ffs_pathnames.proofs.pass2.phase2.Goals as goal
 -- what is known before the first directory
 before_tree : (g : Over) (c : After-check_tree g) (b : List ℕ) →
     WithClaims c.args.geometry.now.layout (g.I.Image.device c.args.image.now) c.args.workspace.now b →
-    IsBefore c.args.geometry.now.layout (g.I.Image.device c.survey.new.image).contents c.clear_passed.new.workspace 2 b
+    IsBefore c.args.geometry.now.layout (g.I.Image.device c.survey.new.image).contents
+    c.clear_passed_and_windows.new.workspace 2 b
 before_tree g c b k =
     let v = c.args.geometry.now.layout in
     let found = c.in_ok-survey.ensures in
-    let clear = c.clear_passed.ensures in
+    let clear = c.clear_passed_and_windows.ensures in
     let claims = (found.survey b k).claims in
     before_first v _ b _ _ (ap (λ d. d.contents) found.leaves.read ∙ k.0) claims (found.survey b k).survey
     (clear.ready v _ found.leaves.ready).ready.made clear
@@ -41,7 +42,8 @@ claims_after : (g : Over) (c : After-check_tree g) (b : List ℕ) →
     HoldsBlockCheck c.args.geometry.now.layout b c.check_tree.new.workspace
 claims_after g c b k =
     let v = c.args.geometry.now.layout in
-    let cleared = claims_left v b _ _ c.clear_passed.ensures.survey (c.in_ok-survey.ensures.survey b k).claims in
+    let clear = c.clear_passed_and_windows.ensures in
+    let cleared = claims_left v b _ _ clear.survey (c.in_ok-survey.ensures.survey b k).claims in
     findings_claims v b _ _ c.check_tree.ensures.tree.findings cleared
 
 -- the phase ends as the check of the tree does
@@ -111,13 +113,15 @@ pub returns-clause-ends : goal.returns-clause-ends
 returns-clause-ends g c =
     let v = c.args.geometry.now.layout in
     let tree = c.check_tree.ensures.tree in
-    ends_by v (g.I.Image.device c.args.image.now) (g.I.Image.device c.survey.new.image) _ c.clear_passed.new.workspace _
-    _ _ c.check_tree.result
+    ends_by v (g.I.Image.device c.args.image.now) (g.I.Image.device c.survey.new.image) _
+    c.clear_passed_and_windows.new.workspace _ _ _ c.check_tree.result
     (λ b k. before_tree g (goal.at.returns-clause-ends g c).After-check_tree b k)
-    (λ b k. references_on v b _ _ (tree.findings.references ∙ c.clear_passed.ensures.survey.findings.references)
+    (λ b k. references_on v b _ _
+    (tree.findings.references ∙ c.clear_passed_and_windows.ensures.survey.findings.references)
     (c.in_ok-survey.ensures.survey b k).references) (λ b k. claims_after g (goal.at.returns-clause-ends g c).After-check_tree b k) c.check_tree.ensures.root tree.holds
-    (stop_after v (g.I.Image.device c.args.image.now) (g.I.Image.device c.survey.new.image) _ c.clear_passed.new.workspace
-    _ _ _ c.check_tree.result (λ b k. before_tree g (goal.at.returns-clause-ends g c).After-check_tree b k)
+    (stop_after v (g.I.Image.device c.args.image.now) (g.I.Image.device c.survey.new.image) _
+    c.clear_passed_and_windows.new.workspace _ _ _ c.check_tree.result
+    (λ b k. before_tree g (goal.at.returns-clause-ends g c).After-check_tree b k)
     c.in_ok-say.ensures.said c.check_tree.ensures.stop)
 
 -- its heading, of any image
@@ -129,7 +133,7 @@ returns-clause-heading g c = heading_part _ _ c.check_tree.result
     (heading_alone {x = tt {0}} c.in_ok-say.ensures.said) c.check_tree.ensures.tree.text
 
 pub check_tree-requires : goal.check_tree-requires
-check_tree-requires g c = c.clear_passed.ensures.ready _ _ c.in_ok-survey.ensures.leaves.ready
+check_tree-requires g c = c.clear_passed_and_windows.ensures.ready _ _ c.in_ok-survey.ensures.leaves.ready
 
 -- what the block check left
 pub returns-in_err-say-clause-block_check : goal.returns-in_err-say-clause-block_check
@@ -141,7 +145,7 @@ returns-in_err-survey-clause-block_check g c = c.survey.ensures.leaves.same
 pub returns-clause-block_check : goal.returns-clause-block_check
 returns-clause-block_check g c =
     let surveyed = block_check_more _ _ _ c.in_ok-survey.ensures.leaves.same
-    c.clear_passed.ensures.survey.findings.block_check in
+    c.clear_passed_and_windows.ensures.survey.findings.block_check in
     block_check_more _ _ _ surveyed c.check_tree.ensures.tree.findings.block_check
 
 -- a survey that was made before is made still
@@ -164,7 +168,8 @@ returns-in_err-survey-clause-surveyed g c =
 
 pub returns-clause-surveyed : goal.returns-clause-surveyed
 returns-clause-surveyed g c = λ unmade.
-    let left = c.check_tree.ensures.tree.findings.surveyed ∙ c.clear_passed.ensures.survey.findings.surveyed in
+    let cleared = c.clear_passed_and_windows.ensures.survey.findings in
+    let left = c.check_tree.ensures.tree.findings.surveyed ∙ cleared.surveyed in
     let first = sym left ∙ unmade in (
       unmade_before c.args.workspace.now c.survey.new.workspace c.survey.ensures.again first,
       λ b k. absurd (both_ways _ first (c.in_ok-survey.ensures.survey b k).surveyed),
@@ -225,8 +230,8 @@ returns-clause-reads g c = record {
       let v = c.args.geometry.now.layout in
       let claims = (c.in_ok-survey.ensures.survey b k).claims in
       let flags = c.in_ok-survey.ensures.flags first b k in
-      let checks = looked_at_first v b c.survey.new.workspace c.clear_passed.new.workspace claims flags
-      c.clear_passed.ensures in
+      let checks = looked_at_first v b c.survey.new.workspace c.clear_passed_and_windows.new.workspace claims flags
+      c.clear_passed_and_windows.ensures in
       omega (arith, c.survey.ensures.reads.each b k, c.check_tree.ensures.tree.looks b before checks);
   surveyed_before = λ second b k.
       let before = before_tree g (goal.at.returns-clause-reads g c).After-check_tree b k in
@@ -235,7 +240,7 @@ returns-clause-reads g c = record {
   stopped = λ b k ends.
       let before = before_tree g (goal.at.returns-clause-reads g c).After-check_tree b k in
       let v = c.args.geometry.now.layout in
-      let other = goes_is v b c.clear_passed.new.workspace _ refl before.claims ∙ ends in
+      let other = goes_is v b c.clear_passed_and_windows.new.workspace _ refl before.claims ∙ ends in
       let unread = c.check_tree.ensures.unread other in
       omega (arith, c.survey.ensures.reads.each b k, unread);
 }

@@ -2,7 +2,7 @@ use Rattle.std.proofs.{Common.{◌≡◌, ◌∙◌, ap, rules, slice_index}, le
 use Rattle.ffs_workspace.proofs.Leaving.{leaves_more, windows_leave}
 use Rattle.ffs_workspace.specs.declared.workspace.Workspace.{Workspace}
 use Rattle.ffs_pathnames.proofs.{ReadyLaws.ready_passed, StampLaws.{none_due, none_stamped}}
-use Rattle.ffs_pathnames.proofs.pass2.clear_passed.Goals as goal
+use Rattle.ffs_pathnames.proofs.pass2.clear_passed_and_windows.Goals as goal
 
 pub returns : goal.returns
 returns c =

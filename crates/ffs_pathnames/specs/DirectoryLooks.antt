@@ -5,7 +5,7 @@ use Rattle.ffs_image.specs.{Reads.ReadAfter, declared.image.ImageFault.ImageFaul
 use Rattle.ffs_image.specs.Known.{ForBytes}
 use Rattle.ffs_volume.specs.{declared.Layout.Layout, Blocks.Inodes.inode_of, Directories.Roles.roled_entries}
 use Rattle.ffs_volume.specs.Directories.{PathnameCheck.are_sound, Volumes.volume_of}
-use Rattle.ffs_pathnames.specs.{declared.look.{Examination.Examination, FirstLook.FirstLook}, Gathers.passed_of}
+use Rattle.ffs_pathnames.specs.{declared.look.{ChunksLook.ChunksLook, FirstLook.FirstLook}, Gathers.passed_of}
 use Rattle.ffs_pathnames.specs.{PassedNames.{are_quiet, after_looks}, StartChunks.start_chunk, Stamps.KeepParts}
 use Rattle.ffs_workspace.specs.{declared.workspace.Workspace.Workspace, Leaves.LeavesSurvey, Ready.CanRead}
 
@@ -17,27 +17,27 @@ pub record LeavesAllButDue (old new : Workspace) : Type 0 where
 
 -- what the first look at a directory leaves: the image, but for a read that failed, and all of the
 -- workspace but which words are due
-pub record ExamineLeaves {T : Type 0} (v : Layout) (old new : WorkMoment) (result : Result T ImageFault) :
+pub record LookLeaves {T : Type 0} (v : Layout) (old new : WorkMoment) (result : Result T ImageFault) :
     Type 0 where
   pub lists : LeavesAllButDue old.workspace new.workspace
   pub ready : CanRead v new.image new.workspace
   pub read : ReadAfter old.image new.image result
 
--- what a look at the directory `dir` finds: whether a Gap of it is kept, whether its chunks are sound, the
--- chunk at the start of the file, and whether it is sure that nothing is reported of its entries
-pub record IsFirstLook (v : Layout) (b : List ℕ) (dir : ℕ) (old : Workspace) (f : FirstLook) (start : List ℕ) :
+-- what a look at all chunks of the directory `dir` finds: whether a Gap of it is kept, whether its chunks are
+-- sound, the chunk at the start of the file, and whether it is sure that nothing is reported of its entries
+pub record IsChunksLook (v : Layout) (b : List ℕ) (dir : ℕ) (old : Workspace) (look : ChunksLook) (start : List ℕ) :
     Type 0 where
-  pub gap : f.gap ≡ (volume_of v b).gap dir
-  pub sound : f.sound ≡ are_sound ((volume_of v b).chunks dir)
-  pub started : find (λ c. c.offset == 0) ((volume_of v b).chunks dir) ≡ start_chunk [] f.started v.order start
-  pub quiet : f.quiet ≡ are_quiet (volume_of v b) dir old.flags.items (passed_of old).stamps
+  pub gap : look.gap ≡ (volume_of v b).gap dir
+  pub sound : look.sound ≡ are_sound ((volume_of v b).chunks dir)
+  pub started : find (λ c. c.offset == 0) ((volume_of v b).chunks dir) ≡ start_chunk [] look.started v.order start
+  pub quiet : look.quiet ≡ are_quiet (volume_of v b) dir old.flags.items (passed_of old).stamps
       (roled_entries (volume_of v b) dir)
 
--- the same, and its inode is the image's
-pub record IsExamined (v : Layout) (b : List ℕ) (dir : ℕ) (old : Workspace) (e : Examination) (start : List ℕ) :
+-- what a first look at it finds: the same, and its inode, which is the image's
+pub record IsFirstLook (v : Layout) (b : List ℕ) (dir : ℕ) (old : Workspace) (f : FirstLook) (start : List ℕ) :
     Type 0 where
-  pub inode : e.inode ≡ inode_of v b dir
-  pub look : IsFirstLook v b dir old e.look start
+  pub inode : f.inode ≡ inode_of v b dir
+  pub chunks : IsChunksLook v b dir old f.chunks start
 
 -- each inode that belongs to the directory `dir` is stamped
 abbrev pub StampsOwn : Layout → (b : List ℕ) → (dir : ℕ) → (old new : Workspace) → Type 0
@@ -46,10 +46,10 @@ StampsOwn v b dir old new = (passed_of new).stamps
 
 -- a look at a directory finds what `finds` says, by what is known of the bytes, and leaves all but which
 -- words are due
-pub record Examines {T : Type 0} (v : Layout) (knows : List ℕ → Type 0) (finds : T → List ℕ → Type 0)
+pub record LooksAt {T : Type 0} (v : Layout) (knows : List ℕ → Type 0) (finds : T → List ℕ → Type 0)
     (old new : WorkMoment) (result : Result T ImageFault) : Type 0 where
   pub found : IfOk result (λ x. ForBytes knows (finds x))
-  pub leaves : ExamineLeaves v old new result
+  pub leaves : LookLeaves v old new result
 
 -- a look takes its reads of those that are left: `cost` at most, by what is known of the bytes, and no more
 -- than are left, of any image

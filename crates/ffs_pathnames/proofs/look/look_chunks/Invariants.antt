@@ -7,7 +7,7 @@ use Rattle.ffs_names.specs.{Windows.CanReadChunks, Readings.{rest, gap_left}, Co
 use Rattle.ffs_pathnames.specs.{Gathers.passed_of, PassedNames.{are_quiet, after_looks}, Stamps.{KeepsWords, stamps_of}}
 use Rattle.ffs_pathnames.{specs.StartChunks.start_chunk, proofs.SeesLaws.chunks_read}
 use Rattle.ffs_workspace.specs.Holds.{HoldsBlockCheck, HoldsSurvey}
-use Rattle.ffs_pathnames.proofs.look.look_directory.Given as goal
+use Rattle.ffs_pathnames.proofs.look.look_chunks.Given as goal
 
 abbrev pub invariant-chunks : goal.invariant-chunks
 invariant-chunks g l =

@@ -2,11 +2,11 @@ use Rattle.std.proofs.{Common.{◌≤◌, ◌+◌, ◌∙◌, ap, arith, refl, �
 use Rattle.ffs_workspace.proofs.Leaving.{claims_held, survey_held}
 use Rattle.ffs_volume.specs.Costs.DirectoryReads.{directory_cost}
 use Rattle.ffs_pathnames.{specs.DirectoryContext.{DirectoryContext, KnowsDirectory}}
-use Rattle.ffs_pathnames.proofs.look.examine_unlimited.{Given.Over, Goals.After-look_directory}
-use Rattle.ffs_pathnames.proofs.look.examine_unlimited.Goals as goal
+use Rattle.ffs_pathnames.proofs.look.look_directory_unlimited.{Given.Over, Goals.After-look_chunks}
+use Rattle.ffs_pathnames.proofs.look.look_directory_unlimited.Goals as goal
 
 -- what is known of the directory once its inode is read
-known : (g : Over) (c : After-look_directory g) (b : List ℕ) → DirectoryContext c.args.geometry.now.layout
+known : (g : Over) (c : After-look_chunks g) (b : List ℕ) → DirectoryContext c.args.geometry.now.layout
     (g.I.Image.device c.args.image.now).contents c.args.workspace.now c.args.dir b →
     KnowsDirectory c.args.geometry.now.layout (g.I.Image.device c.inode_by_part.new.image)
     (record c.args.workspace.now
@@ -25,9 +25,9 @@ known g c b k =
     )
 
 -- the reads
-reads_few : (g : Over) (c : After-look_directory g) (b : List ℕ) → DirectoryContext c.args.geometry.now.layout
+reads_few : (g : Over) (c : After-look_chunks g) (b : List ℕ) → DirectoryContext c.args.geometry.now.layout
     (g.I.Image.device c.args.image.now).contents c.args.workspace.now c.args.dir b →
-    g.I.Image.reads c.look_directory.new.image
+    g.I.Image.reads c.look_chunks.new.image
     ≤ g.I.Image.reads c.args.image.now + directory_cost c.args.geometry.now.layout b c.args.dir
 reads_few g c b k = grind (arith, known)
 
@@ -37,8 +37,8 @@ inode_by_part-requires g c = grind arith
 pub noted_cut-requires : goal.noted_cut-requires
 noted_cut-requires g c = omega (arith, c.requires.ready.ready.ready.made.notes, c.requires.ready.number)
 
-pub look_directory-requires : goal.look_directory-requires
-look_directory-requires g c = grind arith
+pub look_chunks-requires : goal.look_chunks-requires
+look_chunks-requires g c = grind arith
 
 pub returns : goal.returns
 returns g c = grind (arith, known)
@@ -47,5 +47,5 @@ returns g c = grind (arith, known)
 pub returns-in_err-inode : goal.returns-in_err-inode
 returns-in_err-inode g c = grind arith
 
-pub returns-in_err-look : goal.returns-in_err-look
-returns-in_err-look g c = grind (arith, reads_few)
+pub returns-in_err-chunks : goal.returns-in_err-chunks
+returns-in_err-chunks g c = grind (arith, reads_few)
