@@ -45,11 +45,11 @@ bad_rest v inode s start len = lines_of_offers v inode (record s { runs = s.runs
     (range_with_len start len)
 
 further : (v : Layout) (inode : ℕ) (s : Claims) (start len : ℕ) → is_run_in_range v start len ≡ false →
-    (s.bad == 10) ≡ false → run_lines v inode s start len ≡ bad_lines inode start false ++ bad_rest v inode s start len
+    (s.bad == 10) ≡ false → run_lines v inode s start len ≡ bad_lines start inode false ++ bad_rest v inode s start len
 further v inode s start len h e = rw (h, e) refl
 
 pub run_stops : (v : Layout) (inode : ℕ) (s : Claims) (start len : ℕ) {a b : Progress} →
-    is_run_in_range v start len ≡ false → Stopped a b (of_lines (bad_lines inode start (s.bad == 10))) →
+    is_run_in_range v start len ≡ false → Stopped a b (of_lines (bad_lines start inode (s.bad == 10))) →
     Stopped a b (of_lines (run_lines v inode s start len))
 run_stops v inode s start len {a = a} {b = b} h p = elim (cases_Bool (s.bad == 10)) [
   | inl e ↦ rw (h, e) (rw e at p)
@@ -60,7 +60,7 @@ run_stops v inode s start len {a = a} {b = b} h p = elim (cases_Bool (s.bad == 1
 -- a Run that is bad, and isn't the eleventh one: its first lines were said, and its offers then
 module _ (v : Layout) (inode : ℕ) (s : Claims) (start len : ℕ) {a b c : Progress}
     (h : is_run_in_range v start len ≡ false) (few : (s.bad == 10) ≡ false)
-    (p : Said a b (of_lines (bad_lines inode start (s.bad == 10)))) where
+    (p : Said a b (of_lines (bad_lines start inode (s.bad == 10)))) where
   pub run_said : Said b c (of_lines (bad_rest v inode s start len)) →
       Said a c (of_lines (run_lines v inode s start len))
   run_said q = rw (further v inode s start len h few) (said_then _ _ _ _ _ (rw few at p) q)

@@ -73,9 +73,9 @@ pub record CanSeeStep (v : Layout) (w : Workspace) (area : DataArea) (step : Ste
 
 -- the offers of a Run can be taken: the inode isn't cut, the count of kept offers has room for them,
 -- and they are in range if they are said to be
-pub record CanTakeOffers (v : Layout) (w : Workspace) (run : Run) (in_range : Bool) : Type 0 where
+pub record CanTakeOffers (v : Layout) (w : Workspace) (run : Run) (known_in_range : Bool) : Type 0 where
   pub uncut : is_open (claims_of w) ≡ true
-  pub offer : CanOffer v w run.len in_range (is_run_in_range v run.start run.len)
+  pub offer : CanOffer v w run.len known_in_range (is_run_in_range v run.start run.len)
 
 -- what claiming leaves of the workspace (`ClaimsOnly`), and of the data area: each Run in it is in range
 pub record ClaimsInArea (v : Layout) (old new : Workspace) (area : DataArea) : Type 0 where

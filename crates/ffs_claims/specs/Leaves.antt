@@ -17,11 +17,11 @@ pub record HasBegun (w : Workspace) : Type 0 where
   pub runs : w.runs_seen < 2 ^ 61
 
 -- the workspace was made for the volume, its count of kept offers has room for so many more (any bound
--- below 2^64 serves), and where `in_range` says that these are in range, they are (`are_in_range`)
-pub record CanOffer (v : Layout) (w : Workspace) (more : ℕ) (in_range are_in_range : Bool) : Type 0 where
+-- below 2^64 serves), and where `known_in_range` says that these are in range, they are (`are_in_range`)
+pub record CanOffer (v : Layout) (w : Workspace) (more : ℕ) (known_in_range are_in_range : Bool) : Type 0 where
   pub made : IsFor v w
   pub room : w.kept + more ≤ 2 ^ 63
-  pub known : IsTrue in_range → are_in_range ≡ true
+  pub known : IsTrue known_in_range → are_in_range ≡ true
 
 -- each flag that was set is set
 pub record StaySet (old new : List Bool) : Type 0 where

@@ -15,11 +15,11 @@ abbrev pub has_dup_line : Layout → Claims → ℕ → Bool
 has_dup_line v s f = nat_lt s.dup_offers (MAXDUP + 1) && (is_fragment_in_range v f && is_set s.used f)
 
 -- what is reported of a dup offer and of a bad Run, the eleventh one or not
-abbrev pub dup_lines : (number f : ℕ) → Bool → List BlockMessage
-dup_lines number f is_eleventh = Dup f number ∷ (if is_eleventh then ManyDup number ∷ [] else [])
+abbrev pub dup_lines : (f number : ℕ) → Bool → List BlockMessage
+dup_lines f number is_eleventh = Dup f number ∷ (if is_eleventh then ManyDup number ∷ [] else [])
 
-abbrev pub bad_lines : (number start : ℕ) → Bool → List BlockMessage
-bad_lines number start is_eleventh = Bad start number ∷ (if is_eleventh then ManyBad number ∷ [] else [])
+abbrev pub bad_lines : (start number : ℕ) → Bool → List BlockMessage
+bad_lines start number is_eleventh = Bad start number ∷ (if is_eleventh then ManyBad number ∷ [] else [])
 
 -- the owner with this number whose inode was read: `owner_of` makes it by the number alone
 abbrev pub owner_with : Layout → List ℕ → ℕ → Inode → Owner

@@ -11,10 +11,10 @@
 //! ```
 //!
 //! Phase 1 is in `pass1`: `reserve` begins the map with the reserved fragments, `claim` goes over
-//! an inode's steps, `words` claims addresses of which nothing is to be reported, `offer` takes the
-//! Runs of the other steps, by the `area` that each lies in, `store` keeps what is found of an
-//! inode, and `free` passes over free inodes side by side. `lines` has the lines of phase 1. Phase
-//! 1b is in `pass1b`, and `report_offer` reports its DUP lines.
+//! an inode's steps, `silent_addresses` claims addresses of which nothing is to be reported,
+//! `offer` takes the Runs of the other steps, by the `area` that each lies in, `store` keeps what
+//! is found of an inode, and `free` passes over free inodes side by side. `lines` has the lines of
+//! phase 1. Phase 1b is in `pass1b`, and `report_offer` reports its DUP lines.
 //!
 //! It rests on `ffs_workspace` and `ffs_report`.
 #![tactic(auto)]
@@ -28,8 +28,8 @@ mod pass1;
 mod pass1b;
 mod report_offer;
 mod reserve;
+mod silent_addresses;
 mod store;
-mod words;
 
 pub use pass1::phase1;
 pub use pass1b::phase1b;

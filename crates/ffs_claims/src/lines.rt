@@ -40,13 +40,13 @@ pub fn say_class<W: Output>(
 /// # Errors
 /// A write of the report that failed.
 pub fn say_bad<W: Output>(
-    number: u32,
     fragment: u32,
+    number: u32,
     is_eleventh: bool,
     report: &mut Report<'_, W>,
 ) -> Result<(), OutFault>
     ensures { Says (progress W.sink report.old) (progress W.sink report.new)
-        (of_lines (bad_lines number fragment is_eleventh)) result }
+        (of_lines (bad_lines fragment number is_eleventh)) result }
 {
     report.say(&Line::Block(BlockMessage::Bad {
         fragment,
@@ -63,13 +63,13 @@ pub fn say_bad<W: Output>(
 /// # Errors
 /// A write of the report that failed.
 pub fn say_dup<W: Output>(
-    number: u32,
     fragment: u32,
+    number: u32,
     is_eleventh: bool,
     report: &mut Report<'_, W>,
 ) -> Result<(), OutFault>
     ensures { Says (progress W.sink report.old) (progress W.sink report.new)
-        (of_lines (dup_lines number fragment is_eleventh)) result }
+        (of_lines (dup_lines fragment number is_eleventh)) result }
 {
     report.say(&Line::Block(BlockMessage::Dup {
         fragment,

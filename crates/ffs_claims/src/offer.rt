@@ -25,30 +25,30 @@ pub fn is_open(workspace: &Workspace) -> bool
     workspace.bad <= MAXBAD && workspace.dup_offers <= MAXDUP
 }
 
-/// Whether the fragment of an offer is in range. `in_range` says that its whole Run is: then the
-/// fragment isn't looked at.
+/// Whether the fragment of an offer is in range. `known_in_range` says that its whole Run is known
+/// to be: then the fragment isn't looked at. Where it is false, the fragment may be in range still.
 #[inline(always)]
 #[tactic(auto, unfolding(ffs_volume::specs::Disk::Areas::is_fragment_in_range))]
-fn fragment_in_range(geometry: &Geometry, fragment: u64, in_range: bool) -> bool
-    requires known { IsTrue in_range
+fn fragment_in_range(geometry: &Geometry, fragment: u64, known_in_range: bool) -> bool
+    requires known { IsTrue known_in_range
         → is_fragment_in_range geometry.now.layout fragment ≡ true }
     ensures { result ≡ is_fragment_in_range geometry.now.layout fragment }
 {
     // `ok` asks for the size too: it is asked for here so that the fragment has room in 32 bits.
-    in_range || (fragment < u64::from(geometry.layout.size) && geometry.ok(fragment as u32))
+    known_in_range || (fragment < u64::from(geometry.layout.size) && geometry.ok(fragment as u32))
 }
 
 /// Takes an offer, and reports nothing. Returns whether the offer is dup and kept, and so has a DUP
-/// line, which `take_offer` says. `in_range` says that its Run is in range.
+/// line, which `take_offer` says. `known_in_range` is that of `fragment_in_range`.
 #[inline(always)]
 #[tactic(auto, using(crate::proofs::Frames::stay, ffs_volume::proofs::Potentials::in_range_below))]
 fn take_offer_silently(
     geometry: &Geometry,
     workspace: &mut Workspace,
     fragment: u64,
-    in_range: bool,
+    known_in_range: bool,
 ) -> bool
-    requires { CanOffer geometry.now.layout workspace.old 1 in_range
+    requires { CanOffer geometry.now.layout workspace.old 1 known_in_range
         (is_fragment_in_range geometry.now.layout fragment) }
     ensures taken { TakesOffer geometry.now.layout fragment workspace.old workspace.new }
     ensures dup { result ≡ has_dup_line geometry.now.layout (claims_of workspace.old) fragment }
@@ -57,7 +57,7 @@ fn take_offer_silently(
         return false;
     }
     workspace.kept += 1;
-    if !fragment_in_range(geometry, fragment, in_range) {
+    if !fragment_in_range(geometry, fragment, known_in_range) {
         return false;
     }
     let index = fragment as u32;
@@ -69,16 +69,17 @@ fn take_offer_silently(
     true
 }
 
-/// Takes one offer, and reports what is wrong with it. `in_range` says that its Run is in range.
+/// Takes one offer, and reports what is wrong with it. `known_in_range` says that its Run is known
+/// to be in range.
 fn take_offer<W: Output>(
     geometry: &Geometry,
     workspace: &mut Workspace,
     number: u32,
     fragment: u64,
-    in_range: bool,
+    known_in_range: bool,
     report: &mut Report<'_, W>,
 ) -> Result<(), OutFault>
-    requires { CanOffer geometry.now.layout workspace.old 1 in_range
+    requires { CanOffer geometry.now.layout workspace.old 1 known_in_range
         (is_fragment_in_range geometry.now.layout fragment) }
     ensures said { Says (progress W.sink report.old) (progress W.sink report.new)
         (of_lines (offer_lines geometry.now.layout number (claims_of workspace.old) fragment))
@@ -86,23 +87,23 @@ fn take_offer<W: Output>(
     ensures taken { TakesOffer geometry.now.layout fragment workspace.old workspace.new }
 {
     let is_eleventh = workspace.dup_offers == MAXDUP;
-    if !take_offer_silently(geometry, workspace, fragment, in_range) {
+    if !take_offer_silently(geometry, workspace, fragment, known_in_range) {
         return Ok(());
     }
-    say_dup(number, fragment as u32, is_eleventh, report)
+    say_dup(fragment as u32, number, is_eleventh, report)
 }
 
-/// Takes the offers of a Run, one after another, and reports what is wrong with them. `in_range`
-/// says that the Run is in range.
+/// Takes the offers of a Run, one after another, and reports what is wrong with them.
+/// `known_in_range` says that the Run is known to be in range.
 fn take_offers<W: Output>(
     geometry: &Geometry,
     workspace: &mut Workspace,
     number: u32,
     run: Run,
-    in_range: bool,
+    known_in_range: bool,
     report: &mut Report<'_, W>,
 ) -> Result<(), OutFault>
-    requires { CanOffer geometry.now.layout workspace.old run.len in_range
+    requires { CanOffer geometry.now.layout workspace.old run.len known_in_range
         (is_run_in_range geometry.now.layout run.start run.len) }
     ensures { TakesOffers geometry.now.layout number run
         (claim_moment W.Output workspace.old report.old)
@@ -114,7 +115,7 @@ fn take_offers<W: Output>(
             workspace,
             number,
             u64::from(run.start) + u64::from(index),
-            in_range,
+            known_in_range,
             report,
         )?;
     }
@@ -189,7 +190,7 @@ fn take_run<W: Output>(
     }
     let is_eleventh = workspace.bad == MAXBAD;
     workspace.bad += 1;
-    say_bad(number, run.start, is_eleventh, report)?;
+    say_bad(run.start, number, is_eleventh, report)?;
     if is_eleventh {
         return Ok(false);
     }

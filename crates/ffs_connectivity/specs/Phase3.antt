@@ -7,7 +7,7 @@ use Rattle.ffs_connectivity.specs.Leaders.{HasLeaders}
 
 -- the windows hold what the image gives, x is an inode of the volume, and it is known which directories
 -- lead a cycle of parents
-pub record CanReportLost (v : Layout) (d : Device) (w : Workspace) (x : ℕ) : Type 0 where
+pub record CanReportUnref (v : Layout) (d : Device) (w : Workspace) (x : ℕ) : Type 0 where
   pub ready : CanRead v d w
   pub number : (2 ≤ x) × (x < inodes_of v)
   pub leaders : HasLeaders w

@@ -10,7 +10,7 @@
 //! It rests on `ffs_survey`, `ffs_workspace` and `ffs_report`.
 #![tactic(auto)]
 
-mod lost;
 mod pass3;
+mod unref;
 
 pub use pass3::phase3;

@@ -10,7 +10,7 @@ ghost use Rattle.ffs_volume.specs.Directories.Volumes.{volume_of};
 ghost use Rattle.ffs_connectivity.specs.Unreached.{IsFirstUnreached};
 ghost use Rattle.ffs_workspace.specs.{Found.WithSurvey, Leaves.LeavesSurvey, Ready.IsReady, Tables.IsTableSector};
 
-use crate::lost::report_lost;
+use crate::unref::report_unref;
 use ffs_image::Image;
 use ffs_layout::Geometry;
 use ffs_memory::FilledList;
@@ -88,7 +88,7 @@ pub fn phase3<I: Image, W: Output>(
     // `queue` was lent to the walks over parents: no place of a parent entry is noted now.
     workspace.queue.fill(0);
     for number in first..geometry.inodes() {
-        report_lost(geometry, image, workspace, number, report)?;
+        report_unref(geometry, image, workspace, number, report)?;
     }
     Ok(())
 }

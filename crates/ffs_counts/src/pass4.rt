@@ -68,7 +68,8 @@ fn unallocated_from(kinds: &[u8], first: usize) -> usize
     requires { first < length kinds.now }
     ensures { AreUnallocatedFrom kinds.now first result }
 {
-    if kinds[first] != 0 {
+    let kind = Kind { code: kinds[first] };
+    if kind.is_allocated() {
         return 0;
     }
     if kinds.len() - first < UNALLOCATED_AT_ONCE {
@@ -200,7 +201,7 @@ fn report_references<I: Image, W: Output>(
 /// count of links.
 ///
 /// The contract gives the text only for a workspace that holds what the block check and the survey
-/// of directories found.
+/// of directories found, and the counts of references (`WithFindings`).
 ///
 /// # Errors
 /// A read of the image that failed, and a write of the report that failed.

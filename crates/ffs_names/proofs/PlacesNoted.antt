@@ -24,7 +24,8 @@ use Rattle.ffs_workspace.{proofs.PlaceLaws.name_in-roled, specs.{Holds.{HoldsBlo
 use Rattle.ffs_workspace.{specs.Tables.TableHolds, proofs.PartLaws.{begins_part, lies_in_part, BeginsPart}}
 use Rattle.ffs_workspace.specs.declared.{table.Table.Table, workspace.Workspace.Workspace}
 use Rattle.ffs_names.{proofs.InParts.named_in_part, specs.{Fits.CursorFits, RunCursors.{last_place, StepsOn}}}
-use Rattle.ffs_names.specs.{declared.run_cursor.RunCursor.RunCursor, Noting.{belongs_to, is_found, BeginsNotes, IsParent}}
+use Rattle.ffs_names.specs.declared.run_cursor.RunCursor.{RunCursor}
+use Rattle.ffs_names.specs.Noting.{is_child_of, is_found, BeginsNotes, IsParent}
 use Rattle.ffs_names.specs.{Noting.{KeepsToRead, NotesChildren, NotesChunk, NotesEach, NotesRight}}
 use Rattle.ffs_names.specs.Windows.{CanReadChunks}
 
@@ -68,13 +69,13 @@ notes_end {parents = parents} {ws = ws} {p = p} {place = place} is = rw is (note
 -- ---- chunks of a directory
 -- of an inode with the parent p of which no place is noted, the entries to come have the first one of p
 abbrev pub AreToCome : (parents ws : List ℕ) (p : ℕ) (all rest : List RoledEntry) → Type 0
-AreToCome parents ws p all rest = (x : ℕ) → belongs_to parents p x ≡ true → part_in (slice_index ws x) ≡ 0 →
+AreToCome parents ws p all rest = (x : ℕ) → is_child_of parents p x ≡ true → part_in (slice_index ws x) ≡ 0 →
     name_in x all ≡ name_in x rest
 
 -- of an inode with the parent p that some entries of p name, a place is noted, or one of those to
 -- come names it
 abbrev pub AreWaiting : (v : Layout) (b parents first ws : List ℕ) (p : ℕ) (all rest : List RoledEntry) → Type 0
-AreWaiting v b parents first ws p all rest = (x : ℕ) → belongs_to parents p x ≡ true →
+AreWaiting v b parents first ws p all rest = (x : ℕ) → is_child_of parents p x ≡ true →
     list_any (is_naming_entry x) all ≡ true → (part_in (slice_index first x) ≡ 0) ⊎ IsNoted v b first x →
     IsNoted v b ws x ⊎ ((part_in (slice_index ws x) ≡ 0) × (list_any (is_naming_entry x) rest ≡ true))
 
@@ -96,7 +97,7 @@ unnoted false y a b place some child e none = absurd (cc)
 -- an inode with the parent p of which no place is noted is named in no chunk of the current Run that
 -- was given
 abbrev pub AreUnnamed : Layout → (b parents ws : List ℕ) (p : ℕ) → RunCursor → Type 0
-AreUnnamed v b parents ws p cursor = (x : ℕ) → belongs_to parents p x ≡ true → part_in (slice_index ws x) ≡ 0 →
+AreUnnamed v b parents ws p cursor = (x : ℕ) → is_child_of parents p x ≡ true → part_in (slice_index ws x) ≡ 0 →
     (i : ℕ) → i < cursor.next →
     list_any (is_naming_entry x) (entries_in_chunk v.order (piece (cursor.place + 512 * i) 512 b)) ≡ false
 
@@ -126,7 +127,7 @@ module _ {v : Layout} {b parents old new : List ℕ} {p place at offset : ℕ} {
       ∙ name_in-roled x (offset == 0) false 0 0 (entries_of v.order bytes))
 
   -- the part of the image with the chunk: of an inode of which no place is noted it has the same name
-  in_part : (x : ℕ) → belongs_to parents p x ≡ true → part_in (slice_index old x) ≡ 0 →
+  in_part : (x : ℕ) → is_child_of parents p x ≡ true → part_in (slice_index old x) ≡ 0 →
       list_any (is_naming_entry x) (entries_in_chunk v.order bytes) ≡ true →
       (name_in x (entries_in_part v b (at / part_size v)) ≡ name_in x (entries_in_chunk v.order bytes))
       × (list_any (is_naming_entry x) (entries_in_part v b (at / part_size v)) ≡ true)
@@ -163,7 +164,7 @@ module _ {v : Layout} {b parents old new : List ℕ} {p place at offset : ℕ} {
       one : (f : Bool) → is_found parents old p (entries_in_chunk v.order bytes) x ≡ f →
           (part_in (slice_index first x) ≡ suc j) ⊎ (name_in x (entries_in_part v b j) ≡ name_in x all)
       one true e =
-          let outer = and_parts (belongs_to parents p x) _ e in
+          let outer = and_parts (is_child_of parents p x) _ e in
           let inner = and_parts (part_in (slice_index old x) == 0)
           (list_any (is_naming_entry x) (entries_in_chunk v.order bytes)) outer.1 in
           let none = eqb-true (part_in (slice_index old x)) 0 inner.0 in
@@ -175,10 +176,10 @@ module _ {v : Layout} {b parents old new : List ℕ} {p place at offset : ℕ} {
       one false e = before x j (sym (rw e at (k.noted.places x)) ∙ h)
 
   -- an inode of which none is noted after it was not noted before, and the chunk doesn't name it
-  still_none : (x : ℕ) → belongs_to parents p x ≡ true → part_in (slice_index new x) ≡ 0 →
+  still_none : (x : ℕ) → is_child_of parents p x ≡ true → part_in (slice_index new x) ≡ 0 →
       (part_in (slice_index old x) ≡ 0) × (list_any (is_naming_entry x) (entries_in_chunk v.order bytes) ≡ false)
   still_none x child none =
-      unnoted (belongs_to parents p x) (list_any (is_naming_entry x) (entries_in_chunk v.order bytes)) _ _ place
+      unnoted (is_child_of parents p x) (list_any (is_naming_entry x) (entries_in_chunk v.order bytes)) _ _ place
       (λ z. absurd (omega (arith, z, k.number))) child (k.noted.places x) none
 
   -- those of which none is noted still have theirs to come
@@ -212,7 +213,7 @@ module _ {v : Layout} {b parents old new : List ℕ} {p place at offset : ℕ} {
       roled_chunk rest) → AreWaiting v b parents first new p all (flat_map roled_chunk later)
   waiting_after first all waiting x child named before =
       elim (waiting x child named before) [
-        | inl done ↦ inl (noted_still (kept_place (belongs_to parents p x)
+        | inl done ↦ inl (noted_still (kept_place (is_child_of parents p x)
             (list_any (is_naming_entry x) (entries_in_chunk v.order bytes)) _ _ place done.part done.place
             (k.noted.places x)) done)
         | inr w ↦ go w.0 w.1 (list_any (is_naming_entry x) (entries_in_chunk v.order bytes)) refl
@@ -239,7 +240,7 @@ module _ {v : Layout} {b parents old new : List ℕ} {p place at offset : ℕ} {
 -- where no chunk is left, all are noted
 pub all_noted : (v : Layout) (b parents first ws : List ℕ) (p : ℕ) (all : List RoledEntry) (rest : List Chunk) →
     rest ≡ [] → AreWaiting v b parents first ws p all (flat_map roled_chunk rest) → (x : ℕ) →
-    belongs_to parents p x ≡ true → list_any (is_naming_entry x) all ≡ true →
+    is_child_of parents p x ≡ true → list_any (is_naming_entry x) all ≡ true →
     (part_in (slice_index first x) ≡ 0) ⊎ IsNoted v b first x → IsNoted v b ws x
 all_noted v b parents first ws p all rest none waiting x child named before = grind arith
 
@@ -264,9 +265,9 @@ pub places_after : {v : Layout} {b : List ℕ} {w : Workspace} {old new : List �
     (is_dir (volume_of v b) p ≡ true → NotesRight v b (roled_entries (volume_of v b) p) old new) →
     NotesChildren w.parents.items old new p → AreParts v b old → AreParts v b new
 places_after {v = v} {b = b} {w = w} {p = p} survey noted children right x q k there is =
-    go (belongs_to w.parents.items p x) refl
+    go (is_child_of w.parents.items p x) refl
   where
-    go : (m : Bool) → belongs_to w.parents.items p x ≡ m →
+    go : (m : Bool) → is_child_of w.parents.items p x ≡ m →
         name_in x (entries_in_part v b k) ≡ name_in x (roled_entries (volume_of v b) q)
     go false e = right x q k (sym (children.others x e) ∙ there) is
     go true e =
@@ -385,7 +386,7 @@ coming_first {v = v} {b = b} {w = w} {words = words} long begins survey x p unde
 pub coming_noted : {v : Layout} {b : List ℕ} {w : Workspace} {mid new : List ℕ} {d : ℕ} (old : List ℕ) → HoldsSurvey v b
     w → ((x : ℕ) → part_in (slice_index mid x) ≡ part_in (slice_index old x)) → ((x : ℕ) → x ≢ d
     → is_to_be_read (slice_index mid x) ≡ is_to_be_read (slice_index old x)) → (is_dir (volume_of v b) d ≡ true
-    → NotesEach v b (belongs_to w.parents.items d) (roled_entries (volume_of v b) d) mid new) → NotesChildren w.parents.items mid new d →
+    → NotesEach v b (is_child_of w.parents.items d) (roled_entries (volume_of v b) d) mid new) → NotesChildren w.parents.items mid new d →
     AreComing v b old → AreComing v b new
 coming_noted {v = v} {b = b} {w = w} {mid = mid} {new = new} {d = d} old survey same others noted children coming
     x p under = go (cases_eq p d)
@@ -401,13 +402,13 @@ coming_noted {v = v} {b = b} {w = w} {mid = mid} {new = new} {d = d} old survey 
     go (inl e) =
         let link = and_parts (is_dir (volume_of v b) p) (list_any (is_naming_entry x) (roled_entries (volume_of v b) p))
         (and_parts (is_dir (volume_of v b) x) (is_naming_dir (graph_of (volume_of v b)) p x) under.link).1 in
-        let child : belongs_to w.parents.items d x ≡ true =
+        let child : is_child_of w.parents.items d x ≡ true =
         and_from (slice_index w.parents.items x == d) (not (x == 2)) (eq-eqb (slice_index w.parents.items x) d (up ∙ e))
         (not_from_false (x == 2) under.other) in
         inl (noted (rw e at link.0) x child (rw e at link.1)
         (elim before [ inl is ↦ inr is | inr w ↦ inl w.0 ]))
     go (inr o) =
-        let child : belongs_to w.parents.items d x ≡ false =
+        let child : is_child_of w.parents.items d x ≡ false =
         ap (λ (m : Bool). m && not (x == 2)) (ne_eqb (slice_index w.parents.items x) d (λ e. o (sym up ∙ e))) in
         elim before [
           | inl is ↦ inl (noted_still (children.others x child) is)

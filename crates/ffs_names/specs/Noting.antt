@@ -52,13 +52,13 @@ pub record CanNoteDirectory (v : Layout) (d : Device) (w : Workspace) (p : ℕ) 
   pub ready : CanRead v d w
 
 -- p is the parent of x. The root has no parent entry
-abbrev pub belongs_to : (parents : List ℕ) (p x : ℕ) → Bool
-belongs_to parents p x = (slice_index parents x == p) && not (x == ROOTINO)
+abbrev pub is_child_of : (parents : List ℕ) (p x : ℕ) → Bool
+is_child_of parents p x = (slice_index parents x == p) && not (x == ROOTINO)
 
 -- p is the parent of x, of which no place is noted yet, and some entries have a plain one that names x
 abbrev pub is_found : (parents words : List ℕ) (p : ℕ) → List RoledEntry → (x : ℕ) → Bool
 is_found parents words p es x =
-    belongs_to parents p x && ((part_in (slice_index words x) == 0) && list_any (is_naming_entry x) es)
+    is_child_of parents p x && ((part_in (slice_index words x) == 0) && list_any (is_naming_entry x) es)
 
 -- what is to be read stays so
 abbrev pub KeepsToRead : (old new : List ℕ) → Type 0
@@ -88,7 +88,7 @@ NotesEach v b child es old new = (x : ℕ) → child x ≡ true → list_any (is
 
 -- no place of an inode with another parent is noted, and what is to be read stays so
 pub record NotesChildren (parents old new : List ℕ) (p : ℕ) : Type 0 where
-  pub others : (x : ℕ) → belongs_to parents p x ≡ false → part_in (slice_index new x) ≡ part_in (slice_index old x)
+  pub others : (x : ℕ) → is_child_of parents p x ≡ false → part_in (slice_index new x) ≡ part_in (slice_index old x)
   pub to_read : KeepsToRead old new
 
 -- places of the entries of the directory p are noted, those of all where no read failed, and the image was read
@@ -96,7 +96,7 @@ pub record NotesChildren (parents old new : List ℕ) (p : ℕ) : Type 0 where
 pub record NotesDirectory {T : Type 0} (v : Layout) (b : List ℕ) (p : ℕ) (old new : WorkMoment)
     (result : Result T ImageFault) : Type 0 where
   pub right : NotesRight v b (roled_entries (volume_of v b) p) old.workspace.queue.items new.workspace.queue.items
-  pub each : OnOk result (NotesEach v b (belongs_to old.workspace.parents.items p) (roled_entries (volume_of v b) p)
+  pub each : OnOk result (NotesEach v b (is_child_of old.workspace.parents.items p) (roled_entries (volume_of v b) p)
       old.workspace.queue.items new.workspace.queue.items)
   pub counted : new.reads ≤ old.reads + noted_directory_cost v b p
 

@@ -1,4 +1,8 @@
 //! Where the parent entries of directories are in the image.
+//!
+//! To note a place is to keep it in the list `queue` of the workspace, for the directory whose
+//! parent entry is there. A note is another thing: what phase 1 left of an inode in the list
+//! `notes`.
 
 ghost use Rattle.std.specs.Prelude.{◌≡◌, ◌+◌, ◌<◌, ◌≤◌, ◌^◌, ◌∷◌, [], true, false, IfOk, OnOk, MatchResult, length};
 ghost use Rattle.std.specs.{Prelude.vec_len, List.flat_map};
@@ -10,7 +14,7 @@ ghost use Rattle.ffs_volume.specs.{Directories.{Roles.roled_from, Volumes.volume
 ghost use Rattle.ffs_volume.specs.Costs.DirectoryReads.{noted_directory_cost};
 ghost use Rattle.ffs_workspace.specs.{Found.{WithClaims, WithSurvey}, Holds.HoldsSurvey, Ready.CanRead};
 ghost use Rattle.ffs_workspace.specs.Tables.{CanReadInode, TableAfter};
-ghost use Rattle.ffs_names.specs.Noting.{chunk_noting, belongs_to, BeginsNotes, CanNote, CanNoteChunks};
+ghost use Rattle.ffs_names.specs.Noting.{chunk_noting, is_child_of, BeginsNotes, CanNote, CanNoteChunks};
 ghost use Rattle.ffs_names.specs.Noting.{CanNoteDirectory, HoldsPlaces, NotingDirectoryLeaves, NotingChunksLeaves};
 ghost use Rattle.ffs_names.specs.Noting.{NotingLeaves, NotesDirectory, NotesEach, NotesInWords, NotesRight};
 ghost use Rattle.ffs_names.specs.Noting.{parents_sweep_cost};
@@ -30,10 +34,11 @@ use ffs_workspace::{
     without_due, word_of_part,
 };
 
-/// Whether a directory is the parent of an inode other than the root, which has no parent entry.
-fn belongs_to(parents: &FilledList<u32>, dir: u32, number: u32) -> bool
+/// Whether a directory is the parent of an inode, by the stored parents alone: these give one to no
+/// inode but directories. The root has no parent entry, so it is the child of none.
+fn is_child_of(parents: &FilledList<u32>, dir: u32, number: u32) -> bool
     requires { 0 < dir }
-    ensures { result ≡ belongs_to parents.now.items dir number }
+    ensures { result ≡ is_child_of parents.now.items dir number }
 {
     if number as usize >= parents.len() {
         return false;
@@ -57,7 +62,7 @@ fn note_entry(
 {
     // Whether an entry is plain depends neither on its index nor on its chunk's place in the file:
     // any will do here.
-    if role_of(false, 0, entry) != Role::Plain || !belongs_to(parents, dir, entry.number) {
+    if role_of(false, 0, entry) != Role::Plain || !is_child_of(parents, dir, entry.number) {
         return;
     }
     let index = entry.number as usize;
@@ -108,7 +113,7 @@ fn note_chunks<I: Image>(
         (λ b. NotesRight chunks.old.walk.geometry.layout b
         (flat_map roled_chunk (rest b chunks.old)) words.old.items words.new.items) }
     ensures each { OnOk result (ForContents (I.device image.old).contents
-        (λ b. NotesEach chunks.old.walk.geometry.layout b (belongs_to parents.now.items dir)
+        (λ b. NotesEach chunks.old.walk.geometry.layout b (is_child_of parents.now.items dir)
         (flat_map roled_chunk (rest b chunks.old)) words.old.items words.new.items)) }
     ensures leaves { NotingChunksLeaves parents.now dir
         (chunk_noting I.Image image.old windows.old chunks.old words.old)

@@ -79,11 +79,11 @@ pub new_entry : (kinds : List ℕ) (r : List Bool) (e : RoledEntry) →
 new_entry kinds r e h = grind (arith, dir_below)
 
 -- what one entry discovers
-pub visit_hit : {kinds : List ℕ} {r : List Bool} {p : List ℕ} {e : RoledEntry} (q : List ℕ) (s c : ℕ) →
+pub reach_hit : {kinds : List ℕ} {r : List Bool} {p : List ℕ} {e : RoledEntry} (q : List ℕ) (s c : ℕ) →
     IsNewEntry kinds r e → e.entry.number < length r → e.entry.number < length p → c < length q →
     SameResult (from_entries kinds s (e ∷ [])) r p (take c q) nothing (set r e.entry.number true)
     (set p e.entry.number s) (take (c + 1) (set q c e.entry.number))
-visit_hit {e = e} q s c i lr lp lq = from_each (λ x. let push = occurrences-push x q c e.entry.number lq in
+reach_hit {e = e} q s c i lr lp lq = from_each (λ x. let push = occurrences-push x q c e.entry.number lq in
     (grind (arith, set_tests), grind (arith, set_tests), grind (arith, set_tests)))
 
 -- ---- a directory, and a level

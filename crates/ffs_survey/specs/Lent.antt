@@ -124,13 +124,13 @@ HasRoomAfter top l = top + unset l.reached.now.items ≤ length l.queue.now.item
 
 -- what an entry of this directory names can be discovered: its kinds are those of the lists, and the queue
 -- has room
-pub record CanVisit (current : LentDir) (top : ℕ) (l : Lists) : Type 0 where
+pub record CanReach (current : LentDir) (top : ℕ) (l : Lists) : Type 0 where
   pub kinds : current.kinds.now ≡ l.kinds.now
   pub room : HasRoomAfter top l
 
 -- what the entry e of the directory d names is discovered: the queue, which ended at `top`, keeps what
 -- it had and ends at `end`, with what is newly reached; nothing is counted
-pub record Visits (d : ℕ) (e : RoledEntry) (top end : ℕ) (old new : Lists) : Type 0 where
+pub record Reaches (d : ℕ) (e : RoledEntry) (top end : ℕ) (old new : Lists) : Type 0 where
   pub ends : end + unset new.reached.now.items ≡ top + unset old.reached.now.items
   pub discovered : AreDiscovered (from_entries old.kinds.now d (e ∷ [])) (found_up_to old top) (found_up_to new end)
   pub extends : Extends top end old.queue.now.items new.queue.now.items
@@ -163,7 +163,7 @@ module _ {S : Type 0} (D : Ghosts S) where
     pub counts : CountsAtMost most l
 
   -- the same, and the queue has room after `top`
-  pub record CanReach (most top : ℕ) (reader : S) (l : Lists) : Type 0 where
+  pub record CanReadReached (most top : ℕ) (reader : S) (l : Lists) : Type 0 where
     pub ready : D.ready reader
     pub counts : CountsAtMost most l
     pub room : HasRoomAfter top l
@@ -171,7 +171,7 @@ module _ {S : Type 0} (D : Ghosts S) where
   -- the same for a level that is in the queue from `low` to `high`. If the reader's base knows the
   -- bytes, it is of reached directories
   pub record CanReadLevel (low high : ℕ) (reader : S) (l : Lists) : Type 0 where
-    pub can : CanReach (2 ^ 59) high reader l
+    pub can : CanReadReached (2 ^ 59) high reader l
     pub ordered : low ≤ high
     pub reached : (b : List ℕ) → D.knows (D.base reader) b
         → All (IsReachedDir l.kinds.now l.reached.now.items) (drop low (take high l.queue.now.items))

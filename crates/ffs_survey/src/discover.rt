@@ -3,8 +3,8 @@ ghost use Rattle.std.specs.Prelude.{◌≡◌, ◌*◌, ◌-◌, ◌^◌, ◌<�
 ghost use Rattle.std.specs.List.{sum_by};
 ghost use Rattle.ffs_volume.specs.Directories.Roles.{is_plain as is_plain_role};
 ghost use Rattle.ffs_survey.specs.{Reading.roled_of, Lists.CountLists, Survey.{bool_at}};
-ghost use Rattle.ffs_survey.specs.Lent.{found_up_to, current_of, ForKnown, CanVisit, CanCount, CanReach, CanReadLevel};
-ghost use Rattle.ffs_survey.specs.Lent.{Adopts, AddsUnreached, FlagsIfCalm, LeavesLent, Visits};
+ghost use Rattle.ffs_survey.specs.Lent.{found_up_to, current_of, ForKnown, CanReach, CanCount, CanReadLevel};
+ghost use Rattle.ffs_survey.specs.Lent.{Adopts, AddsUnreached, CanReadReached, FlagsIfCalm, LeavesLent, Reaches};
 ghost use Rattle.ffs_survey.specs.Levels.{Discovers, ReadsReached, ReadsDirs};
 ghost use Rattle.ffs_volume.specs.Costs.Calm.{is_calm_kind, is_calm_plain, is_calm_entry};
 ghost use Rattle.ffs_survey.specs.Discover.{IsCounted, is_unreached_dir as is_unreached_dir_at};
@@ -62,9 +62,9 @@ fn is_new(entry: EntryHead, kinds: &[u8], lists: &Lists) -> bool
 /// Where an entry of the current directory names a directory that isn't reached yet, flags that as
 /// reached, gives it its parent, and puts it into the queue, which ends at `top`. Returns where the
 /// queue ends then.
-fn visit(entry: EntryHead, current: &LentDir, lists: &mut Lists, top: usize) -> usize
-    requires { CanVisit current.now top lists.old }
-    ensures { Visits current.now.dir (roled_of entry []) top result lists.old lists.new }
+fn reach(entry: EntryHead, current: &LentDir, lists: &mut Lists, top: usize) -> usize
+    requires { CanReach current.now top lists.old }
+    ensures { Reaches current.now.dir (roled_of entry []) top result lists.old lists.new }
 {
     if !is_new(entry, current.kinds, lists) {
         return top;
@@ -128,20 +128,20 @@ fn is_calm_entry(entry: EntryHead, index: u32, current: &LentDir, lists: &Lists)
     }
 }
 
-/// Flags the directory `from`, all of whose `count` entries are read, if these are calm and its
+/// Flags the directory `dir`, all of whose `count` entries are read, if these are calm and its
 /// shape is right.
 fn flag_calm<D: Directories>(
     directories: &mut D,
-    from: u32,
+    dir: u32,
     calm_so_far: bool,
     count: u32,
     calm: &mut FilledList<bool>,
 ) -> Result<(), ImageFault>
     requires { D.ready directories.old }
-    ensures { FlagsIfCalm D.Directories from (calm_so_far && nat_le 2 count) directories.old
+    ensures { FlagsIfCalm D.Directories dir (calm_so_far && nat_le 2 count) directories.old
         directories.new calm.old.items calm.new.items result }
 {
-    let number = from as usize;
+    let number = dir as usize;
     if !calm_so_far || count < 2 || number >= calm.len() {
         return Ok(());
     }
@@ -151,36 +151,36 @@ fn flag_calm<D: Directories>(
     Ok(())
 }
 
-/// Reads the directory `from` of a level: counts its entries, discovers what they name, and flags
+/// Reads the directory `dir` of a level: counts its entries, discovers what they name, and flags
 /// it in `calm` if nothing can be reported of it. No count grows by more than 2^28, since a
 /// directory has no more entries (`Directories::start`). The counts before are at most 2^60: more
 /// than all entries together, and far below 2^64.
 fn read_reached<D: Directories>(
     directories: &mut D,
     lists: &mut Lists,
-    from: u32,
+    dir: u32,
     top: usize,
 ) -> Result<usize, ImageFault>
-    requires { CanReach D.Directories (2 ^ 60) top directories.old lists.old }
+    requires { CanReadReached D.Directories (2 ^ 60) top directories.old lists.old }
     ensures found { IfOk result (λ n. Discovers (2 ^ 28) top n
         (λ old new. ForKnown D.Directories directories.old (λ entries right_shape.
-        ReadsReached from (entries from) (right_shape from) old new))
+        ReadsReached dir (entries dir) (right_shape dir) old new))
         (found_up_to lists.old top) (found_up_to lists.new n)) }
-    ensures leaves { LeavesLent D.Directories (λ cost. cost from) directories.old directories.new
+    ensures leaves { LeavesLent D.Directories (λ cost. cost dir) directories.old directories.new
         lists.old lists.new result }
 {
-    let parent = number_of(lists.parents, from as usize);
+    let parent = number_of(lists.parents, dir as usize);
     let current = LentDir {
         kinds: lists.kinds,
         marked: lists.marked,
         any_marked: lists.any_marked,
-        dir: from,
+        dir,
         parent,
     };
     let mut high = top;
     let mut calm_so_far = true;
     let mut count = 0u32;
-    directories.start(from)?;
+    directories.start(dir)?;
     while let Some(entry) = directories.next()? {
         if matches!(entry.role, Role::Empty) {
             calm_so_far = calm_so_far && count >= 2;
@@ -189,10 +189,10 @@ fn read_reached<D: Directories>(
         }
         count_entry(entry, current.kinds, lists.references, lists.named);
         calm_so_far = calm_so_far && is_calm_entry(entry, count, &current, lists);
-        high = visit(entry, &current, lists, high);
+        high = reach(entry, &current, lists, high);
         count += 1;
     }
-    flag_calm(directories, from, calm_so_far, count, lists.calm)?;
+    flag_calm(directories, dir, calm_so_far, count, lists.calm)?;
     Ok(high)
 }
 
@@ -218,16 +218,16 @@ pub fn read_level<D: Directories>(
 {
     let mut top = high;
     for at in low..high {
-        let from = number_of(lists.queue, at);
-        top = read_reached(directories, lists, from, top)?;
+        let dir = number_of(lists.queue, at);
+        top = read_reached(directories, lists, dir, top)?;
     }
     Ok(top)
 }
 
-/// Where an entry of the directory `from` names a directory that isn't reached and has no parent
-/// yet, makes `from` its parent.
-fn adopt(entry: EntryHead, from: u32, lists: &mut Lists)
-    ensures { Adopts from (roled_of entry []) lists.old lists.new }
+/// Where an entry of the directory `dir` names a directory that isn't reached and has no parent
+/// yet, makes `dir` its parent.
+fn adopt(entry: EntryHead, dir: u32, lists: &mut Lists)
+    ensures { Adopts dir (roled_of entry []) lists.old lists.new }
 {
     if !is_new(entry, lists.kinds, lists) {
         return;
@@ -236,10 +236,10 @@ fn adopt(entry: EntryHead, from: u32, lists: &mut Lists)
     if lists.parents[number] != 0 {
         return;
     }
-    lists.parents.set(number, from);
+    lists.parents.set(number, dir);
 }
 
-/// Reads the directory `from`, which isn't reached: counts its entries, and gives a parent to what
+/// Reads the directory `dir`, which isn't reached: counts its entries, and gives a parent to what
 /// they name.
 ///
 /// # Errors
@@ -247,20 +247,20 @@ fn adopt(entry: EntryHead, from: u32, lists: &mut Lists)
 pub fn read_unreached<D: Directories>(
     directories: &mut D,
     lists: &mut Lists,
-    from: u32,
+    dir: u32,
 ) -> Result<(), ImageFault>
     requires { CanCount D.Directories (2 ^ 60) directories.old lists.old }
-    ensures { AddsUnreached D.Directories from directories.old directories.new lists.old lists.new
+    ensures { AddsUnreached D.Directories dir directories.old directories.new lists.old lists.new
         result }
 {
-    directories.start(from)?;
+    directories.start(dir)?;
     while let Some(entry) = directories.next()? {
         if matches!(entry.role, Role::Empty) {
             directories.skip_empty();
             continue;
         }
         count_entry(entry, lists.kinds, lists.references, lists.named);
-        adopt(entry, from, lists);
+        adopt(entry, dir, lists);
     }
     Ok(())
 }

@@ -39,7 +39,7 @@ returns-in_err-say_class-clause-claims g c =
         arith,
         b.seen,
         steps_rise c.args.geometry.now.layout (at_next_inode (claims_of c.args.workspace.now))
-            (steps_of c.args.geometry.now.layout c.args.claimant.now.inode.now bytes),
+            (steps_of c.args.geometry.now.layout c.args.owner.now.inode.now bytes),
       );
     })
 
@@ -59,12 +59,12 @@ returns-in_err-claim_steps-clause-claims g c =
       known = λ bytes t. omega (
         arith,
         c.claim_steps.ensures.known bytes t,
-        ap (λ s. indirect_in_steps v s (steps_of v c.args.claimant.now.inode.now bytes)) (ap claims_of c.clear_counts.ensures),
+        ap (λ s. indirect_in_steps v s (steps_of v c.args.owner.now.inode.now bytes)) (ap claims_of c.clear_counts.ensures),
       );
       most = λ bytes t. omega (
         arith,
         c.claim_steps.ensures.most bytes t,
-        ap (λ s. (after_steps v s (steps_of v c.args.claimant.now.inode.now bytes)).runs) (ap claims_of c.clear_counts.ensures),
+        ap (λ s. (after_steps v s (steps_of v c.args.owner.now.inode.now bytes)).runs) (ap claims_of c.clear_counts.ensures),
       );
     })
 
@@ -84,12 +84,12 @@ returns-in_err-say_count-clause-claims g c =
       known = λ bytes t. omega (
         arith,
         c.claim_steps.ensures.known bytes t,
-        ap (λ s. indirect_in_steps v s (steps_of v c.args.claimant.now.inode.now bytes)) (ap claims_of c.clear_counts.ensures),
+        ap (λ s. indirect_in_steps v s (steps_of v c.args.owner.now.inode.now bytes)) (ap claims_of c.clear_counts.ensures),
       );
       most = λ bytes t. omega (
         arith,
         c.claim_steps.ensures.most bytes t,
-        ap (λ s. (after_steps v s (steps_of v c.args.claimant.now.inode.now bytes)).runs) (ap claims_of c.clear_counts.ensures),
+        ap (λ s. (after_steps v s (steps_of v c.args.owner.now.inode.now bytes)).runs) (ap claims_of c.clear_counts.ensures),
       );
     })
 
@@ -108,18 +108,18 @@ returns-clause-claims g c =
           c.in_ok-claim_steps.ensures.text c.in_ok-claim_steps.ensures.claims) (λ bytes t. refl)
           c.in_ok-say_count.ensures;
       claims = λ bytes t. ap claims_of c.store-2.ensures.same ∙ c.in_ok-claim_steps.ensures.claims bytes t
-          ∙ ap (λ s. after_steps v s (steps_of v c.args.claimant.now.inode.now bytes)) (ap claims_of c.clear_counts.ensures);
+          ∙ ap (λ s. after_steps v s (steps_of v c.args.owner.now.inode.now bytes)) (ap claims_of c.clear_counts.ensures);
       left = grind (arith, stay);
       known = λ bytes t. omega (
         arith,
         c.claim_steps.ensures.known bytes t,
-        ap (λ s. indirect_in_steps v s (steps_of v c.args.claimant.now.inode.now bytes)) (ap claims_of c.clear_counts.ensures),
+        ap (λ s. indirect_in_steps v s (steps_of v c.args.owner.now.inode.now bytes)) (ap claims_of c.clear_counts.ensures),
       );
       most = λ bytes t. omega (
         arith,
         s.seen,
         c.claim_steps.ensures.most bytes t,
-        ap (λ s. (after_steps v s (steps_of v c.args.claimant.now.inode.now bytes)).runs) (ap claims_of c.clear_counts.ensures),
+        ap (λ s. (after_steps v s (steps_of v c.args.owner.now.inode.now bytes)).runs) (ap claims_of c.clear_counts.ensures),
       );
     }
 
@@ -127,7 +127,7 @@ pub returns-then-matches-clause-claims : goal.returns-then-matches-clause-claims
 returns-then-matches-clause-claims g c =
     let v = c.args.geometry.now.layout in
     let old = claims_of c.args.workspace.now in
-    let is_free : c.args.claimant.now.class ≡ Free = elim c.match-matches.branch [
+    let is_free : c.args.owner.now.class ≡ Free = elim c.match-matches.branch [
       | in-Free w ↦ w.in-Free.is
       | in_default w ↦ cc
     ] in
@@ -147,6 +147,6 @@ returns-then-matches-clause-claims g c =
         arith,
         b.seen,
         s.seen,
-        steps_rise v (at_next_inode old) (steps_of v c.args.claimant.now.inode.now bytes),
+        steps_rise v (at_next_inode old) (steps_of v c.args.owner.now.inode.now bytes),
       );
     }

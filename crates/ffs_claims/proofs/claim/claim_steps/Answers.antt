@@ -21,12 +21,12 @@ pub returns-then-not-has_steps : goal.returns-then-not-has_steps
 returns-then-not-has_steps g c =
     let v = c.args.geometry.now.layout in
     let s = claims_of c.args.workspace.now in
-    let none = λ (bytes : List ℕ). without_steps v c.args.claimant.now.inode.now bytes
+    let none = λ (bytes : List ℕ). without_steps v c.args.owner.now.inode.now bytes
     (omega (arith, c.args.geometry.now.sound.sizes.bsize_low))
     (sym (c.has_steps.ensures c.requires.class_is) ∙ c.if-not-has_steps.true) in
     record {
       text = says_none
-          (λ bytes t. ap (λ xs. of_lines (lines_of_steps v c.args.claimant.now.number s xs)) (none bytes));
+          (λ bytes t. ap (λ xs. of_lines (lines_of_steps v c.args.owner.now.number s xs)) (none bytes));
       claims = λ bytes t. sym (ap (after_steps v s) (none bytes));
       image = refl;
       left = claiming_none c.requires.claim;
@@ -68,15 +68,15 @@ loop-next-init g c =
       );
       claims = λ bytes t. words.means.claims image blocks bytes t ∙ ap (after_steps v s) (walk.steps bytes);
       said = of_same _ _ _ _ _ _ (of_begins _ _ _)
-          (λ bytes t. ap of_lines (sym (words.means.lines image blocks bytes t c.args.claimant.now.number
-          ∙ ap (lines_of_steps v c.args.claimant.now.number s) (walk.steps bytes))));
+          (λ bytes t. ap of_lines (sym (words.means.lines image blocks bytes t c.args.owner.now.number
+          ∙ ap (lines_of_steps v c.args.owner.now.number s) (walk.steps bytes))));
     }
 
 pub returns-then-not-has_address : goal.returns-then-not-has_address
 returns-then-not-has_address g c =
     let v = c.args.geometry.now.layout in
     let s = claims_of c.args.workspace.now in
-    let n = c.args.claimant.now.number in
+    let n = c.args.owner.now.number in
     let walk = rw c.requires.walk at c.restart.ensures.walk c.requires.class_is in
     let top = c.restart.ensures.top in
     let begins = c.restart.ensures.geometry ∙ c.requires.walk in
@@ -89,7 +89,7 @@ returns-then-not-has_address g c =
     let end = c.claim_direct.ensures.top in
     let over = λ (bytes : List ℕ). top_ends bytes w (grind arith) end.single end.double end.triple in
     let now : ForBytes (IsContents image)
-    (λ bytes. s' ≡ after_steps v s (steps_of v c.args.claimant.now.inode.now bytes)) = λ bytes t.
+    (λ bytes. s' ≡ after_steps v s (steps_of v c.args.owner.now.inode.now bytes)) = λ bytes t.
     sym (ap (after_steps v s') (over bytes)) ∙ words.means.claims image blocks bytes t
     ∙ ap (after_steps v s) (walk.steps bytes) in
     record {
@@ -211,11 +211,11 @@ loop-next-preserved-then-matches g c =
           ∙ gaps_unseen v s (suc c.skip_gaps.result) (rest bytes) in
           omega (arith, paid, inv.indirect bytes t, unseen, c.skip_gaps.ensures.counted.unread);
       claims = λ bytes t. sym (ap (after_steps v s) (gaps bytes t)
-          ∙ (gaps_over v c.args.claimant.now.number s c.skip_gaps.result (rest bytes)).0)
+          ∙ (gaps_over v c.args.owner.now.number s c.skip_gaps.result (rest bytes)).0)
           ∙ inv.claims bytes t;
       said = of_same _ _ _ _ _ _ inv.said (λ bytes t.
-          ap (λ xs. of_lines (lines_of_steps v c.args.claimant.now.number s xs)) (gaps bytes t)
-          ∙ ap of_lines (gaps_over v c.args.claimant.now.number s c.skip_gaps.result (rest bytes)).1);
+          ap (λ xs. of_lines (lines_of_steps v c.args.owner.now.number s xs)) (gaps bytes t)
+          ∙ ap of_lines (gaps_over v c.args.owner.now.number s c.skip_gaps.result (rest bytes)).1);
     }
 
 pub claim_words-requires : goal.claim_words-requires
@@ -232,7 +232,7 @@ claim_words-requires g c =
 pub loop-next-preserved : goal.loop-next-preserved
 loop-next-preserved g c =
     let inv = c.loop-next.invariant in
-    let n = c.args.claimant.now.number in
+    let n = c.args.owner.now.number in
     let v = c.args.geometry.now.layout in
     let s = claims_of c.loop-next.workspace in
     let read = claiming_walked c.in_ok-next.ensures.leaves.read inv.geometry c.next.ensures.leaves.kept inv.left in
@@ -279,7 +279,7 @@ returns-then-not-seen g c =
     let v = c.args.geometry.now.layout in
     let s = claims_of c.loop-next.workspace in
     let s' = claims_of c.claim_step.new.workspace in
-    let n = c.args.claimant.now.number in
+    let n = c.args.owner.now.number in
     let read = claiming_walked c.in_ok-next.ensures.leaves.read inv.geometry c.next.ensures.leaves.kept inv.left in
     let now = c.in_ok-seen.ensures.claims in
     let few = seen_bound c.args.workspace.now read.claim.ready.ready.made inv.open_still read.claim_bound in
@@ -323,7 +323,7 @@ returns-in_default g c =
     let over = rw (inv.device, c.in_default.is) at c.in_ok-next.ensures.step.steps in
     record {
       text = of_same _ _ _ _ _ _ inv.said
-          (λ bytes t. ap (λ xs. of_lines (lines_of_steps v c.args.claimant.now.number s xs)) (over bytes t));
+          (λ bytes t. ap (λ xs. of_lines (lines_of_steps v c.args.owner.now.number s xs)) (over bytes t));
       claims = λ bytes t. sym (ap (after_steps v s) (over bytes t)) ∙ inv.claims bytes t;
       image = c.in_ok-next.ensures.leaves.read ∙ inv.device;
       left = claiming_walked c.in_ok-next.ensures.leaves.read inv.geometry c.next.ensures.leaves.kept inv.left;

@@ -9,7 +9,7 @@ use Rattle.ffs_claims.{proofs.Inodes.Claiming, specs.Lines.of_lines}
 use Rattle.ffs_claims.proofs.claim.claim_steps.Given as goal
 
 abbrev pub invariant-loop-next : goal.invariant-loop-next
-invariant-loop-next g l = let v = l.geometry.layout in let n = l.claimant.number in let i = l.claimant.inode.now in
+invariant-loop-next g l = let v = l.geometry.layout in let n = l.owner.number in let i = l.owner.inode.now in
     let knows = IsContents (g.I.Image.device l.fn.image).contents in record {
       device : g.I.Image.device l.image ≡ g.I.Image.device l.fn.image;
       left : Claiming v (g.I.Image.device l.image) l.fn.workspace l.workspace l.sweep.area;

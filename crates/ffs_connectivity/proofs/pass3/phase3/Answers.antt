@@ -67,25 +67,25 @@ loop-number-init g c =
       paid = paid_says _ c.in_ok-say.ensures.said (omega arith) (omega arith);
     }
 
-pub returns-in_err-report_lost-clause-text : goal.returns-in_err-report_lost-clause-text
-returns-in_err-report_lost-clause-text g c =
-    let p = err_from_is_err_and c.from_residual-in_err-report_lost.result
-    c.from_residual-in_err-report_lost.ensures.1 in
+pub returns-in_err-report_unref-clause-text : goal.returns-in_err-report_unref-clause-text
+returns-in_err-report_unref-clause-text g c =
+    let p = err_from_is_err_and c.from_residual-in_err-report_unref.result
+    c.from_residual-in_err-report_unref.ensures.1 in
     let v = c.args.geometry.now.layout in
     let n = c.loop-number.number in
-    let fault = c.in_err-report_lost.field-0.0 in
+    let fault = c.in_err-report_unref.field-0.0 in
     rw (p.1, p.2) (of_fault (Unit {0}) (Unit {0}) _ _ _ (lines_after v (n + 1)) _ _ _ _ fault c.loop-number.invariant.said
     (λ bytes k. from_next (unref_dir_lines (volume_of v bytes)) n (inodes_of v) (omega arith))
     (reports_knowing (Unit {0}) _ _ _ _ _ (Err fault)
-    (known g (goal.at.returns-in_err-report_lost-clause-text g c).At-loop-number)
-    c.in_err-report_lost.ensures.text))
+    (known g (goal.at.returns-in_err-report_unref-clause-text g c).At-loop-number)
+    c.in_err-report_unref.ensures.text))
 
 pub loop-number-preserved : goal.loop-number-preserved
 loop-number-preserved g c =
     let v = c.args.geometry.now.layout in
     let inv = c.loop-number.invariant in
     let n = c.loop-number.number in
-    let ok = c.in_ok-report_lost.ensures in
+    let ok = c.in_ok-report_unref.ensures in
     let more = known g (goal.at.loop-number-preserved g c).At-loop-number in
     record {
       ready = ok.stays.can_read;
@@ -110,17 +110,17 @@ returns-in_err-say-clause-paid g c = grind (arith, err_from_is_err_and, paid_sto
 pub returns-then-first-len-clause-paid : goal.returns-then-first-len-clause-paid
 returns-then-first-len-clause-paid g c = paid_says _ c.in_ok-say.ensures.said (omega arith) (omega arith)
 
-pub returns-in_err-report_lost-clause-reads : goal.returns-in_err-report_lost-clause-reads
-returns-in_err-report_lost-clause-reads g c = grind (arith, count_next, known)
+pub returns-in_err-report_unref-clause-reads : goal.returns-in_err-report_unref-clause-reads
+returns-in_err-report_unref-clause-reads g c = grind (arith, count_next, known)
 
-pub returns-in_err-report_lost-clause-paid : goal.returns-in_err-report_lost-clause-paid
-returns-in_err-report_lost-clause-paid g c = grind (arith, err_from_is_err_and, paid_then, paid_fault)
+pub returns-in_err-report_unref-clause-paid : goal.returns-in_err-report_unref-clause-paid
+returns-in_err-report_unref-clause-paid g c = grind (arith, err_from_is_err_and, paid_then, paid_fault)
 
 pub returns-clause-paid : goal.returns-clause-paid
 returns-clause-paid g c = grind (arith, paid_answer)
 
-pub returns-in_err-report_lost-clause-leaves : goal.returns-in_err-report_lost-clause-leaves
-returns-in_err-report_lost-clause-leaves g c = grind arith
+pub returns-in_err-report_unref-clause-leaves : goal.returns-in_err-report_unref-clause-leaves
+returns-in_err-report_unref-clause-leaves g c = grind arith
 
-pub returns-in_err-report_lost-clause-heading : goal.returns-in_err-report_lost-clause-heading
-returns-in_err-report_lost-clause-heading g c = grind (arith, err_from_is_err_and, heading_part)
+pub returns-in_err-report_unref-clause-heading : goal.returns-in_err-report_unref-clause-heading
+returns-in_err-report_unref-clause-heading g c = grind (arith, err_from_is_err_and, heading_part)

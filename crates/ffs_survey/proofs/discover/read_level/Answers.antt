@@ -20,8 +20,8 @@ loop-at-preserved g c =
     let place = c.loop-at.at in
     let inside : place < length level =
     omega (arith, length-take c.args.high old.queue.now.items, c.loop-at-test.true, c.requires.can.room) in
-    let is : c.number_of-from.result ≡ number_at level place =
-    c.number_of-from.ensures ∙ number_kept place c.loop-at-test.true inv.extends in
+    let is : c.number_of-dir.result ≡ number_at level place =
+    c.number_of-dir.ensures ∙ number_kept place c.loop-at-test.true inv.extends in
     let read = rw is at found.read in
     let same = λ (b : List ℕ) (k : g.D.Directories.knows base b). discovered_same (read b k).discovered in
     let still = λ (b : List ℕ) (k : g.D.Directories.knows base b).
@@ -85,8 +85,8 @@ returns-in_err-top-clause-leaves g c =
     let place = c.loop-at.at in
     let inside : place < length level =
     omega (arith, length-take c.args.high queue, c.loop-at-test.true, c.requires.can.room) in
-    let is : c.number_of-from.result ≡ number_at level place =
-    c.number_of-from.ensures ∙ number_kept place c.loop-at-test.true inv.extends in
+    let is : c.number_of-dir.result ≡ number_at level place =
+    c.number_of-dir.ensures ∙ number_kept place c.loop-at-test.true inv.extends in
     let read = rw (inv.lent.base, is) at c.in_err-top.ensures.leaves.reader.counted in
     leaves_by g.D.Directories (search rules) (search rules) (search rules) (search rules) (λ b k.
     let next = next_cost (g.D.Directories.cost (g.D.Directories.base c.args.directories.now) b) level place inside in

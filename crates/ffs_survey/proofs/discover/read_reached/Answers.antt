@@ -21,10 +21,10 @@ loop-entry-preserved g c =
     let q : g.D.Directories.rest c.loop-entry.directories b ≡ e ∷ rest b = rw c.in-Some.is at (reported b k) in q in
     let read = rw inv.lent.base at c.in_ok-entry.ensures.counted in
     let old = c.args.lists.now in
-    let current = current_in old c.args.from c.number_of-parent.result in
+    let current = current_in old c.args.dir c.number_of-parent.result in
     let counted = c.count_entry.ensures in
-    let visited = c.visit-high.ensures in
-    let same_result = rw (same_kinds inv.lent.same) at (discovered_same visited.discovered) in
+    let reach = c.reach-high.ensures in
+    let same_result = rw (same_kinds inv.lent.same) at (discovered_same reach.discovered) in
     let right : c.if-calm_so_far-2.calm_so_far ≡ (c.loop-entry.calm_so_far
     && is_calm_entry current (bool_at c.loop-entry.lists.reached.now.items) c.loop-entry.count e)
     = elim c.if-calm_so_far-2.branch [
@@ -33,21 +33,21 @@ loop-entry-preserved g c =
     ] in
     record {
       lent = still_by g.D.Directories (search rules) (search rules) (search rules)
-          (visited.counts.same.lent ∙ inv.lent.same.lent);
+          (reach.counts.same.lent ∙ inv.lent.same.lent);
       reads = λ b k. omega (arith, (read b k (inv.held b k)).paid, inv.reads b k);
       held = λ b k. (read b k (inv.held b k)).held;
-      flags = visited.counts.calm ∙ inv.flags;
-      room = omega (arith, visited.ends, inv.room, queue_long visited.counts.same);
-      extends = extends_on inv.extends visited.extends;
+      flags = reach.counts.calm ∙ inv.flags;
+      room = omega (arith, reach.ends, inv.room, queue_long reach.counts.same);
+      extends = extends_on inv.extends reach.extends;
       left = omega (arith, inv.left, fell);
       grown = λ x l.
-          let now = ap (λ items. number_at items x) visited.counts.references in
+          let now = ap (λ items. number_at items x) reach.counts.references in
           omega (arith, inv.grown x l, counted.counts x l, now, bit-le (refers x e), fell);
       counted = omega (arith, inv.counted, fell);
-      high = omega (arith, visited.ends, inv.high);
+      high = omega (arith, reach.ends, inv.high);
       same_result = λ b k.
-          entry_step old.kinds.now c.args.from e (rest b) (rw (cut b k) at (inv.same_result b k)) same_result;
-      counts = λ b k. rw (visited.counts.references, visited.counts.named)
+          entry_step old.kinds.now c.args.dir e (rest b) (rw (cut b k) at (inv.same_result b k)) same_result;
+      counts = λ b k. rw (reach.counts.references, reach.counts.named)
           (entry_counted e (rest b) (rw (cut b k) at (inv.counts b k)) counted.counts counted.names);
       calm_so_far = λ b k. calm_step current c.loop-entry.count e (rest b) c.loop-entry.calm_so_far same_result right
           (rw (cut b k) at (inv.calm_so_far b k));
@@ -98,9 +98,9 @@ loop-entry-preserved-then-matches g c =
       grown = λ x l. omega (arith, inv.grown x l, fell, skip.left);
       counted = omega (arith, inv.counted, fell, skip.left);
       high = inv.high;
-      same_result = λ b k. rw (← (found b k).discovers old.kinds.now c.args.from) (inv.same_result b k);
+      same_result = λ b k. rw (← (found b k).discovers old.kinds.now c.args.dir) (inv.same_result b k);
       counts = λ b k. rw (← (found b k).counts, ← (found b k).names) (inv.counts b k);
-      calm_so_far = λ b k. rw right (calm_over c.loop-entry.calm_so_far (current_in old c.args.from c.number_of-parent.result)
+      calm_so_far = λ b k. rw right (calm_over c.loop-entry.calm_so_far (current_in old c.args.dir c.number_of-parent.result)
           (bool_at c.loop-entry.lists.reached.now.items) c.skip_empty.result c.loop-entry.count e (rest b) (after b) empty
           (skips b k) (rw (here b k) at (inv.calm_so_far b k)));
       right_shape = λ b k. (rw same at skip.shape) b k ∙ ((rw inv.lent.base at next.shape) b k ∙ inv.right_shape b k);

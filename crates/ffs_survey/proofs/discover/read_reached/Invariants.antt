@@ -10,14 +10,14 @@ invariant-loop-entry g l =
     let old = l.fn.lists in
     let over = g.D.Directories.base l.fn.directories in
     let knows = g.D.Directories.knows over in
-    let current = current_in old l.from l.parent in
-    let entries = λ (b : List ℕ). g.D.Directories.entries over b l.from in
+    let current = current_in old l.dir l.parent in
+    let entries = λ (b : List ℕ). g.D.Directories.entries over b l.dir in
     let rest = g.D.Directories.rest l.directories in
     let coming = g.D.Directories.left l.directories in
     record {
       lent : StillLent g.D.Directories l.fn.directories l.directories old l.lists;
       reads : (b : List ℕ) → knows b → g.D.Directories.reads l.directories + g.D.Directories.to_read l.directories b
-          ≤ g.D.Directories.reads l.fn.directories + g.D.Directories.cost over b l.from;
+          ≤ g.D.Directories.reads l.fn.directories + g.D.Directories.cost over b l.dir;
       held : (b : List ℕ) → knows b → g.D.Directories.held l.directories;
       flags : l.lists.calm.now.items ≡ old.calm.now.items;
       room : HasRoomAfter l.high l.lists;
@@ -27,8 +27,8 @@ invariant-loop-entry g l =
           number_at l.lists.references.now.items x + coming ≤ number_at old.references.now.items x + 2 ^ 28;
       counted : l.count + coming ≤ 2 ^ 28;
       high : l.high + unset l.lists.reached.now.items ≡ l.top + unset old.reached.now.items;
-      same_result : (b : List ℕ) → knows b → SameResult (from_entries old.kinds.now l.from (entries b)) old.reached.now.items
-          old.parents.now.items (take l.top old.queue.now.items) (from_entries old.kinds.now l.from (rest b))
+      same_result : (b : List ℕ) → knows b → SameResult (from_entries old.kinds.now l.dir (entries b)) old.reached.now.items
+          old.parents.now.items (take l.top old.queue.now.items) (from_entries old.kinds.now l.dir (rest b))
           l.lists.reached.now.items l.lists.parents.now.items (take l.high l.lists.queue.now.items);
       counts : (b : List ℕ) → knows b → Counts (length old.kinds.now) (count_in (entries b)) (any_in (entries b))
           old.references.now.items old.named.now.items (count_in (rest b)) (any_in (rest b))
@@ -37,7 +37,7 @@ invariant-loop-entry g l =
           (l.calm_so_far && are_calm current (bool_at l.lists.reached.now.items) l.count (rest b))
           ≡ are_calm current (bool_at old.reached.now.items) 0 (entries b);
       right_shape : (b : List ℕ) → knows b →
-          g.D.Directories.right_shape_so_far l.directories b ≡ g.D.Directories.right_shape over b l.from;
+          g.D.Directories.right_shape_so_far l.directories b ≡ g.D.Directories.right_shape over b l.dir;
     }
 
 abbrev pub decreases-loop-entry : goal.decreases-loop-entry

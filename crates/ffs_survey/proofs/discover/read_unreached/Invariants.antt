@@ -8,13 +8,13 @@ invariant-loop-entry g l =
     let old = l.fn.lists in
     let over = g.D.Directories.base l.fn.directories in
     let knows = g.D.Directories.knows over in
-    let entries = λ (b : List ℕ). g.D.Directories.entries over b l.from in
+    let entries = λ (b : List ℕ). g.D.Directories.entries over b l.dir in
     let rest = g.D.Directories.rest l.directories in
     let coming = g.D.Directories.left l.directories in
     record {
       lent : StillLent g.D.Directories l.fn.directories l.directories old l.lists;
       reads : (b : List ℕ) → knows b → g.D.Directories.reads l.directories + g.D.Directories.to_read l.directories b
-          ≤ g.D.Directories.reads l.fn.directories + g.D.Directories.cost over b l.from;
+          ≤ g.D.Directories.reads l.fn.directories + g.D.Directories.cost over b l.dir;
       held : (b : List ℕ) → knows b → g.D.Directories.held l.directories;
       kept : KeepsReached old l.lists;
       left : coming ≤ 2 ^ 28;
@@ -25,10 +25,10 @@ invariant-loop-entry g l =
           l.lists.references.now.items l.lists.named.now.items;
       parents : (b : List ℕ) → knows b → (x : ℕ) → x < length old.kinds.now →
           cond (eqb (number_at l.lists.parents.now.items x) 0
-          && (is_unreached_dir old.kinds.now old.reached.now.items x && any_in (rest b) x)) l.from
+          && (is_unreached_dir old.kinds.now old.reached.now.items x && any_in (rest b) x)) l.dir
           (number_at l.lists.parents.now.items x)
           ≡ cond (eqb (number_at old.parents.now.items x) 0
-          && (is_unreached_dir old.kinds.now old.reached.now.items x && any_in (entries b) x)) l.from
+          && (is_unreached_dir old.kinds.now old.reached.now.items x && any_in (entries b) x)) l.dir
           (number_at old.parents.now.items x);
     }
 

@@ -1,6 +1,6 @@
 use Rattle.std.proofs.Common.{◌+◌, ◌-◌, ◌≤◌}
 use Rattle.ffs_claims.specs.Series.{PassesSeries}
-use Rattle.ffs_claims.proofs.words.pass_series.Given as goal
+use Rattle.ffs_claims.proofs.silent_addresses.pass_series.Given as goal
 
 abbrev pub invariant-loop-end : goal.invariant-loop-end
 invariant-loop-end l = record {

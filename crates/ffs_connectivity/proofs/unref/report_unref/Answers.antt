@@ -6,10 +6,10 @@ use Rattle.ffs_report.proofs.Reporting.{reads_first, says_none, stops_all}
 use Rattle.ffs_workspace.{specs.Found.WithSurvey, proofs.TablePlaces.fails_in_table}
 use Rattle.ffs_volume.specs.Directories.Connectivity.{unref_dir_lines}
 use Rattle.ffs_connectivity.proofs.UnrefLines.{attributes_are, unref_dir_is, one_line}
-use Rattle.ffs_connectivity.proofs.{UnrefLines.{silent, heard}, lost.report_lost.Goals.After-is_unref-unref}
-use Rattle.ffs_connectivity.proofs.lost.report_lost.Goals.{After-of}
-use Rattle.ffs_connectivity.proofs.lost.report_lost.Given as given
-use Rattle.ffs_connectivity.proofs.lost.report_lost.Goals as goal
+use Rattle.ffs_connectivity.proofs.{UnrefLines.{silent, heard}, unref.report_unref.Goals.After-is_unref-unref}
+use Rattle.ffs_connectivity.proofs.unref.report_unref.Goals.{After-of}
+use Rattle.ffs_connectivity.proofs.unref.report_unref.Given as given
+use Rattle.ffs_connectivity.proofs.unref.report_unref.Goals as goal
 use Rattle.ffs_volume.specs.declared.tree_lines.ReferenceLine.TheVariants.{UnrefDir}
 use Rattle.ffs_volume.specs.Messages.Kinds.{of_reference}
 

@@ -1,6 +1,6 @@
 use Rattle.std.proofs.Common.{◌≡◌, ◌+◌, ◌-◌, ◌∙◌, ap, arith, refl}
 use Rattle.ffs_claims.proofs.SeriesClaims.{series_next, series_none}
-use Rattle.ffs_claims.proofs.words.pass_series.Goals as goal
+use Rattle.ffs_claims.proofs.silent_addresses.pass_series.Goals as goal
 
 pub loop-end-init : goal.loop-end-init
 loop-end-init c =

@@ -1,6 +1,6 @@
 use Rattle.ffs_walk.specs.Rests.{IsAtTop, most_steps_left}
 use Rattle.ffs_claims.specs.SilentAddresses.{ClaimsAddresses, with_run_counts}
-use Rattle.ffs_claims.proofs.words.claim_counted_direct.Given as goal
+use Rattle.ffs_claims.proofs.silent_addresses.claim_counted_direct.Given as goal
 
 abbrev pub invariant-loop-walk : goal.invariant-loop-walk
 invariant-loop-walk l = record {

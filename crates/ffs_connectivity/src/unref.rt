@@ -1,4 +1,4 @@
-//! The line on a lost directory.
+//! The line UNREF DIR, on one directory of each lost tree or cycle.
 
 ghost use Rattle.std.specs.Prelude.{◌≤◌, ◌+◌, length, map};
 ghost use Rattle.ffs_report.specs.{Paid.Paid, Fails.FailsIn, PhaseOutcome.{ImageAfter, PhaseReports}};
@@ -7,7 +7,7 @@ ghost use Rattle.ffs_report.specs.Progress.{progress};
 ghost use Rattle.ffs_volume.specs.{Directories.Volumes.volume_of, Messages.Kinds.of_tree};
 ghost use Rattle.ffs_workspace.specs.{Found.WithSurvey, Ready.KeepsWindows, Tables.IsTableSector};
 ghost use Rattle.ffs_volume.specs.Directories.Connectivity.{unref_dir_lines};
-ghost use Rattle.ffs_connectivity.specs.Phase3.{CanReportLost};
+ghost use Rattle.ffs_connectivity.specs.Phase3.{CanReportUnref};
 
 use ffs_image::Image;
 use ffs_layout::Geometry;
@@ -21,14 +21,14 @@ use ffs_workspace::Workspace;
 ///
 /// # Errors
 /// A read of the image that failed, and a write of the report that failed.
-pub fn report_lost<I: Image, W: Output>(
+pub fn report_unref<I: Image, W: Output>(
     geometry: &Geometry,
     image: &mut I,
     workspace: &mut Workspace,
     number: u32,
     report: &mut Report<'_, W>,
 ) -> Result<(), RunFault>
-    requires { CanReportLost geometry.now.layout (I.device image.old) workspace.old number }
+    requires { CanReportUnref geometry.now.layout (I.device image.old) workspace.old number }
     ensures faults { ImageAfter (I.device image.old) (I.device image.new) result }
     ensures text { PhaseReports
         (WithSurvey geometry.now.layout (I.device image.old) workspace.old)

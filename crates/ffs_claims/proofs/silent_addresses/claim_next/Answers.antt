@@ -1,6 +1,6 @@
 use Rattle.std.proofs.Common.{◌+◌, arith}
 use Rattle.ffs_claims.{specs.SilentAddresses.with_run_counts, proofs.WordClaims.address_once}
-use Rattle.ffs_claims.proofs.words.claim_next.Goals as goal
+use Rattle.ffs_claims.proofs.silent_addresses.claim_next.Goals as goal
 
 pub claim_address-requires-clause-can : goal.claim_address-requires-clause-can
 claim_address-requires-clause-can c = record { layout = c.args.walk.now.geometry.layout; next = c.requires.can.next }

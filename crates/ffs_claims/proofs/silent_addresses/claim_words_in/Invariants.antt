@@ -1,6 +1,6 @@
 use Rattle.ffs_walk.specs.{HeldWords.IsInHeldBlock, Rests.most_steps_left}
 use Rattle.ffs_claims.specs.SilentAddresses.{ClaimsAddresses, with_run_counts}
-use Rattle.ffs_claims.proofs.words.claim_words_in.Given as goal
+use Rattle.ffs_claims.proofs.silent_addresses.claim_words_in.Given as goal
 
 abbrev pub invariant-loop-order : goal.invariant-loop-order
 invariant-loop-order l = record {

@@ -1,5 +1,5 @@
 use Rattle.ffs_claims.proofs.WordClaims.{address_once, sees_still, words_then}
-use Rattle.ffs_claims.proofs.words.claim_counted_direct.Goals as goal
+use Rattle.ffs_claims.proofs.silent_addresses.claim_counted_direct.Goals as goal
 
 pub claim_address-requires-clause-can : goal.claim_address-requires-clause-can
 claim_address-requires-clause-can c = record {

@@ -1,7 +1,7 @@
 use Rattle.std.proofs.Common.{arith}
 use Rattle.std.proofs.Common.{ap, sym}
 use Rattle.ffs_claims.proofs.WordClaims.{sees_for, sees_still, words_for, words_then}
-use Rattle.ffs_claims.proofs.words.claim_words_in.Goals as goal
+use Rattle.ffs_claims.proofs.silent_addresses.claim_words_in.Goals as goal
 
 -- where the next word isn't claimed, nothing has changed
 pub returns-then-not-claim_next : goal.returns-then-not-claim_next

@@ -1,7 +1,7 @@
 use Rattle.std.proofs.Common.{refl, arith, rules}
 use Rattle.ffs_maps.specs.Bits.{bits_of}
 use Rattle.ffs_claims.proofs.{Frames.{stay, stay_claimed}, UnclaimedRuns.run_below, WordClaims.run_claims}
-use Rattle.ffs_claims.proofs.words.claim_address.Goals as goal
+use Rattle.ffs_claims.proofs.silent_addresses.claim_address.Goals as goal
 
 pub claim-requires : goal.claim-requires
 claim-requires c =
