@@ -56,8 +56,8 @@ pub record IsCutByMemory (name : List ℕ) (asked_sector : Option ℕ) (image im
 
 -- a read failed or the memory was refused: what is said before the line that says so, that line,
 -- and the end
-abbrev pub IsCutShort : List ℕ → Option ℕ → (image image' : Device) → List Message → Cut → Type 0
-IsCutShort name asked_sector image image' text cut =
+abbrev pub IsCutOfReport : List ℕ → Option ℕ → (image image' : Device) → List Message → Cut → Type 0
+IsCutOfReport name asked_sector image image' text cut =
     IsCutAtSuper name asked_sector image image' cut
     ⊎ (IsCutLater name asked_sector image image' text cut
     ⊎ IsCutByMemory name asked_sector image image' cut)
@@ -69,6 +69,6 @@ pub record Headline (name : List ℕ) (asked_sector : Option ℕ) (old new : Mom
   pub text : List Message
   pub is_report : ForContents old.image.contents (λ bytes. text ≡ report_of bytes name asked_sector)
   pub ends : Ends old new text (IsEndOfReport name asked_sector old.image text)
-      (IsCutShort name asked_sector old.image new.image text) end
+      (IsCutOfReport name asked_sector old.image new.image text) end
   pub headings : IfSome (headings_before end) (λ headings. (found : Superblock)
       × TookSections (opening_lines name asked_sector (Ok found)) old.out new.out headings)
