@@ -64,7 +64,8 @@ IsCutOfReport name asked_sector image image' text cut =
 
 -- the headline: `text` is the whole report where the image gives its bytes. It was printed whole; or
 -- cut short by a failed read or refused memory, whose line was printed last; or the output failed.
--- Of any image the phases' headings were printed in their order, after the opening of an accepted superblock
+-- Of any image the headings that `headings_before` gives for this end were printed, in order, after the opening of an
+-- accepted superblock
 pub record Headline (name : List ℕ) (asked_sector : Option ℕ) (old new : Moment) (end : End) : Type 0 where
   pub text : List Message
   pub is_report : ForContents old.image.contents (λ bytes. text ≡ report_of bytes name asked_sector)
