@@ -5,9 +5,9 @@ use Rattle.std.specs.{Prelude.codes, declared.io.Error.Error}
 use Rattle.ffs_image.specs.Device.{Device}
 use Rattle.ffs_volume.specs.Messages.{Kinds.cannot_alloc, Texts.text_of}
 use Rattle.ffs_report.specs.{Outlet.IsCaused, Sink.{BrokeOff, Sink, Took}}
-use Rattle.ffs_report.specs.declared.outlet.Outlet as outlet
-use Rattle.ffs_image.specs.declared.image.Image as image
-use Rattle.ffs_check.specs.declared.opener.Opener as opener
+use Rattle.ffs_report.specs.declared.outlet.Outlet as outlet_trait
+use Rattle.ffs_image.specs.declared.image.Image as image_trait
+use Rattle.ffs_check.specs.declared.opener.Opener as opener_trait
 use Rattle.ffs_check.specs.{Moment.Moment, Program.Meaning, Refusals.IsWritten}
 
 -- the line where the image can't be opened
@@ -27,7 +27,7 @@ pub record Images (O : Type 0) : Type 1 where
   pub refuses : O → List ℕ → O → Type 0
 
 -- those of an opener. I and O are what the types give to contracts as an Image and as an Opener
-abbrev pub images_of : {I O : Type 0} → image.Ghosts I → opener.Ghosts O I → Images O
+abbrev pub images_of : {I O : Type 0} → image_trait.Ghosts I → opener_trait.Ghosts O I → Images O
 images_of {I} {O} looked_at opened = record {
   Image = I;
   device = looked_at.device;
@@ -97,7 +97,7 @@ pub record HadNoMemory {R O : Type 0} (program : Meaning R) (words : List (List 
 
 -- how a run of a program ends: as asked, or without memory, and then nothing goes to standard error; or
 -- refused, and the text for that goes there
-abbrev pub RunsProgram : {R O E : Type 0} → Meaning R → Images O → outlet.Ghosts E → List (List ℕ) →
+abbrev pub RunsProgram : {R O E : Type 0} → Meaning R → Images O → outlet_trait.Ghosts E → List (List ℕ) →
     (old new : RunMoment O) → (errors errors' : E) → ℕ → Type 0
 RunsProgram program images outlet words old new errors errors' status =
     ((errors' ≡ errors)
@@ -129,7 +129,7 @@ FlushedAfter was_flushed contents old new ran_status status =
 -- how a run ends whose writer is flushed after it: `out` and `out'` are the writer as an output, before the
 -- run and after it, `ends` says how the run ends, and `between` is the writer before the flush. The output
 -- failed only where a write did
-pub record RunsProgramFlushed {S : Type 0} (outlet : outlet.Ghosts S) (ends : Sink → Sink → ℕ → Type 0) (old new : S)
+pub record RunsProgramFlushed {S : Type 0} (outlet : outlet_trait.Ghosts S) (ends : Sink → Sink → ℕ → Type 0) (old new : S)
     (status : ℕ) : Type 0 where
   pub out : Sink
   pub out' : Sink
