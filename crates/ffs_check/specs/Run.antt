@@ -8,6 +8,7 @@ use Rattle.ffs_report.specs.{Outlet.IsCaused, Sink.{BrokeOff, Sink, Took}}
 use Rattle.ffs_report.specs.declared.outlet.Outlet as outlet_trait
 use Rattle.ffs_image.specs.declared.image.Image as image_trait
 use Rattle.ffs_check.specs.declared.opener.Opener as opener_trait
+use Rattle.ffs_check.specs.declared.run.TheConstants.{NOT_COMPLETED, WRONG_WORDS}
 use Rattle.ffs_check.specs.{Moment.Moment, Program.Meaning, Refusals.IsWritten}
 
 -- the line where the image can't be opened
@@ -59,7 +60,7 @@ pub record IsOpenFailure {O : Type 0} (images : Images O) (name : List ℕ) (old
     Type 0 where
   pub refused : images.refuses old.opener name new.opener
   pub printed : IsPrintedOrBrokeOff old.out new.out (unopened_text name)
-  pub status_is : status ≡ 8
+  pub status_is : status ≡ NOT_COMPLETED
 
 -- what is asked for was carried out on the image of a name, or the image couldn't be opened
 abbrev pub OpensAndCarriesOut : {O : Type 0} → Images O → (name : List ℕ) → (Moment → Moment → ℕ → Type 0) →
@@ -85,7 +86,7 @@ pub record IsRefused {R O : Type 0} (program : Meaning R) (was_written : List �
   pub written : was_written text
   pub unprinted : new.out ≡ old.out
   pub unopened : new.opener ≡ old.opener
-  pub status_is : status ≡ 2
+  pub status_is : status ≡ WRONG_WORDS
 
 -- memory was refused while the words were read. No image is opened
 pub record HadNoMemory {R O : Type 0} (program : Meaning R) (words : List (List ℕ)) (old new : RunMoment O)
@@ -93,7 +94,7 @@ pub record HadNoMemory {R O : Type 0} (program : Meaning R) (words : List (List 
   pub lacked : program.lacks_memory words
   pub printed : IsPrintedOrBrokeOff old.out new.out (text_of cannot_alloc)
   pub unopened : new.opener ≡ old.opener
-  pub status_is : status ≡ 8
+  pub status_is : status ≡ NOT_COMPLETED
 
 -- how a run of a program ends: as asked, or without memory, and then nothing goes to standard error; or
 -- refused, and the text for that goes there
@@ -108,17 +109,17 @@ RunsProgram program images outlet words old new errors errors' status =
 -- flush succeeded, and is 8 where it failed
 pub record IsFlushed {S : Type 0} (was_flushed : S → Result (Unit {0}) Error → S → Type 0)
     (contents : S → Option (List ℕ)) (old new : S) (ran_status status : ℕ) : Type 0 where
-  pub unrefused : ran_status ≡ 2 → ⊥
+  pub unrefused : ran_status ≡ WRONG_WORDS → ⊥
   pub answer : Result (Unit {0}) Error
   pub flushed : was_flushed old answer new
   pub kept : Keeps (contents old) (contents new)
-  pub status_is : MatchResult answer (λ _. status ≡ ran_status) (λ _. status ≡ 8)
+  pub status_is : MatchResult answer (λ _. status ≡ ran_status) (λ _. status ≡ NOT_COMPLETED)
 
 -- nothing was printed, and nothing is flushed
 pub record IsUnprinted {S : Type 0} (old new : S) (ran_status status : ℕ) : Type 0 where
-  pub refused : ran_status ≡ 2
+  pub refused : ran_status ≡ WRONG_WORDS
   pub untouched : new ≡ old
-  pub status_is : status ≡ 2
+  pub status_is : status ≡ WRONG_WORDS
 
 -- what follows a run with a status: a flush of its writer, unless the words were refused
 abbrev pub FlushedAfter : {S : Type 0} → (S → Result (Unit {0}) Error → S → Type 0) → (S → Option (List ℕ)) →
@@ -129,8 +130,8 @@ FlushedAfter was_flushed contents old new ran_status status =
 -- how a run ends whose writer is flushed after it: `out` and `out'` are the writer as an output, before the
 -- run and after it, `ends` says how the run ends, and `between` is the writer before the flush. The output
 -- failed only where a write did
-pub record RunsProgramFlushed {S : Type 0} (outlet : outlet_trait.Ghosts S) (ends : Sink → Sink → ℕ → Type 0) (old new : S)
-    (status : ℕ) : Type 0 where
+pub record RunsProgramFlushed {S : Type 0} (outlet : outlet_trait.Ghosts S) (ends : Sink → Sink → ℕ → Type 0)
+    (old new : S) (status : ℕ) : Type 0 where
   pub out : Sink
   pub out' : Sink
   pub between : S
