@@ -6,7 +6,7 @@ use Rattle.ffs_report.specs.{Progress.Progress, declared.fault.RunFault.{RunFaul
 use Rattle.ffs_pathnames.specs.declared.pass2.Root.{Root}
 use Rattle.ffs_workspace.specs.{declared.workspace.Workspace.Workspace, Leaves.LeavesBlockCheck}
 use Rattle.ffs_image.specs.Known.{ForBytes}
-use Rattle.ffs_check.specs.{PhaseEnds.{MakesEnd, AnswersAfterPhases, can_end_report}, Rescan.AnswersDups}
+use Rattle.ffs_check.specs.{AllPhases.{MakesEnd, AnswersAfterPhases, can_end_report}, Rescan.AnswersDups}
 
 -- where a phase failed nothing is said of them but the bound, and what `has_dups` may answer
 pub unanswered : {knows : List ℕ → Type 0} {v : Layout} {w w' : Workspace} →

@@ -9,7 +9,7 @@ use Rattle.ffs_report.specs.declared.fault.RunFault.{RunFault, TheVariants.{Read
 use Rattle.ffs_report.proofs.{Reports.said_then, Sinks.took_nil}
 use Rattle.ffs_pathnames.specs.declared.pass2.Root.{Root}
 use Rattle.ffs_check.specs.{Moment.{Moment, ReportMoment, at_output}, Reads.ReadsByMessages}
-use Rattle.ffs_check.{specs.PhaseEnds.{MakesEnd, SaysNoMemory}, proofs.EndLaws.{broke_off, took_messages}}
+use Rattle.ffs_check.{specs.AllPhases.{MakesEnd, SaysNoMemory}, proofs.EndLaws.{broke_off, took_messages}}
 
 -- the price of each message, beside what the phases read for none
 priced : (v : Layout) (n m before after : ℕ) → after ≤ before + phase_reads v 0 + (line_reads + 1) * n → n ≤ m →

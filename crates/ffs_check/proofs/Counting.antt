@@ -4,7 +4,7 @@ use Rattle.ffs_image.specs.Device.{Device}
 use Rattle.ffs_volume.specs.{declared.End.{End, TheVariants.{Refused, ReadFault, WriteFault}}, Messages.Kinds.Message}
 use Rattle.ffs_volume.specs.declared.SuperFault.TheVariants.{CannotRead}
 use Rattle.ffs_check.specs.{Ends.Cut, Failures.{ReadsFailed, WritesFailed}, Moment.Moment}
-use Rattle.ffs_check.{specs.{Headline.{IsCutShort, Headline}, PhaseEnds.can_end_report}, proofs.Headlines.can_end_of}
+use Rattle.ffs_check.{specs.{Headline.{IsCutOfReport, Headline}, AllPhases.can_end_report}, proofs.Headlines.can_end_of}
 
 reads_none : (end : End) (old new : ℕ) → can_end_report end ≡ true → new ≡ old → ReadsFailed end old new
 reads_none (Refused (CannotRead sector)) old new c e = inl e
@@ -18,14 +18,14 @@ writes_none end old new c e = e
 
 -- where a check is cut short, one read had failed, or the memory was refused
 cut_reads : {image image' : Device} {name : List ℕ} {sector : Option ℕ} {text : List Message} {cut : Cut} →
-    IsCutShort name sector image image' text cut →
+    IsCutOfReport name sector image image' text cut →
     ReadsFailed cut.end image.failures image'.failures × ReadsFailed WriteFault image.failures image'.failures
 cut_reads (inl super) = (rw super.end_is (inr super.faulted.rose), inr super.faulted.rose)
 cut_reads (inr (inl later)) = (rw later.end_is later.faulted.rose, inr later.faulted.rose)
 cut_reads (inr (inr unstarted)) = grind arith
 
 cut_writes : {image image' : Device} {name : List ℕ} {sector : Option ℕ} {text : List Message} {cut : Cut}
-    (old new : ℕ) → IsCutShort name sector image image' text cut → new ≡ old → WritesFailed cut.end old new
+    (old new : ℕ) → IsCutOfReport name sector image image' text cut → new ≡ old → WritesFailed cut.end old new
 cut_writes old new (inl super) e = rw super.end_is e
 cut_writes old new (inr (inl later)) e = rw later.end_is e
 cut_writes old new (inr (inr unstarted)) e = rw unstarted.end_is e

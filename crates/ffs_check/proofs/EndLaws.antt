@@ -4,7 +4,7 @@ use Rattle.std.proofs.lemmas.List.Concat.{flat_map-append}
 use Rattle.ffs_volume.specs.{declared.End.{End, TheVariants.WriteFault}, Messages.{Kinds.Message, Texts.{text_of, texts_of}}}
 use Rattle.ffs_report.{specs.{Sink.{BrokeOff, Sink, Took}, Progress.{Progress, Stopped}}, proofs.Sinks.broke_off_after}
 use Rattle.ffs_report.proofs.Sinks.{broke_off_more, took_then}
-use Rattle.ffs_check.specs.{Ends.{BrokeOffAfter, Cut, Ends}, Moment.Moment, PhaseEnds.LineEnds}
+use Rattle.ffs_check.specs.{Ends.{BrokeOffAfter, Cut, Ends}, Moment.Moment, AllPhases.LineEnds}
 
 -- ---- messages that went out, and then others
 pub took_messages : (a b c : Sink) (xs ys : List Message) → Took a b (texts_of xs) → Took b c (texts_of ys) →

@@ -14,7 +14,7 @@ use Rattle.ffs_report.{specs.Sink.Took, proofs.Reports.has_defect-append}
 use Rattle.ffs_report.specs.declared.fault.RunFault.{RunFault, TheVariants.{Read, Out}}
 use Rattle.ffs_pathnames.specs.{declared.pass2.Root.Root, RootAnswers.is_go}
 use Rattle.ffs_check.specs.{Moment.{Moment, ReportMoment, at_output}, Opening.IsWorkingAfter}
-use Rattle.ffs_check.specs.PhaseEnds.{MakesEnd, PhasesEnd, PhasesReport, SaysReadFault}
+use Rattle.ffs_check.specs.AllPhases.{MakesEnd, EndsAfterPhases, ReportsAllPhases, SaysReadFault}
 use Rattle.ffs_check.proofs.EndLaws.{broke_more, broke_off, ends_known, line_after}
 
 -- what an image's bytes determine, and nothing for an image that doesn't give them
@@ -44,10 +44,10 @@ module _ (had_defect : Bool) (knows : List ℕ → Type 0) (s : Superblock) (old
       ∙ ap (λ d. d || has_defect messages) begun.defect ∙ sym (has_defect-append (super_lines s) messages)
 
   -- all was said
-  whole : (root : Root) → PhasesReport knows (λ bytes. phase_lines bytes s) old.report b (Ok root) →
+  whole : (root : Root) → ReportsAllPhases knows (λ bytes. phase_lines bytes s) old.report b (Ok root) →
       new.image ≡ old.image →
       ForBytes knows (λ bytes. is_go root ≡ continues_after_root (volume_of s.layout bytes)) →
-      MakesEnd had_defect b new.report (Ok root) end → PhasesEnd knows s (at_output old) (at_output new) end
+      MakesEnd had_defect b new.report (Ok root) end → EndsAfterPhases knows s (at_output old) (at_output new) end
   whole root p none_failed by_root e = record {
     text = p.said.messages;
     right = λ bytes k. sym (append-nil p.said.messages) ∙ p.said.right bytes k;
@@ -70,7 +70,7 @@ module _ (had_defect : Bool) (knows : List ℕ → Type 0) (s : Superblock) (old
       ForBytes knows (λ bytes. prefix ++ rest bytes ≡ phase_lines bytes s) →
       ForBytes knows (λ bytes. 0 < length (rest bytes)) → Said old.report b prefix →
       Faulted old.image new.image sector → SaysReadFault b new.report sector end →
-      PhasesEnd knows s (at_output old) (at_output new) end
+      EndsAfterPhases knows s (at_output old) (at_output new) end
   cut sector prefix rest right more said f reported = record {
     text = prefix ++ at_contents old.image.contents rest;
     right = right_with prefix rest right;
@@ -94,7 +94,7 @@ module _ (had_defect : Bool) (knows : List ℕ → Type 0) (s : Superblock) (old
   part : (prefix : List Message) (rest : List ℕ → List Message) →
       ForBytes knows (λ bytes. prefix ++ rest bytes ≡ phase_lines bytes s) → Stopped old.report b prefix →
       new.image ≡ old.image → new.report ≡ b → end ≡ WriteFault →
-      PhasesEnd knows s (at_output old) (at_output new) end
+      EndsAfterPhases knows s (at_output old) (at_output new) end
   part prefix rest right stopped none_failed same e = record {
     text = prefix ++ at_contents old.image.contents rest;
     right = right_with prefix rest right;
@@ -109,10 +109,10 @@ module _ (had_defect : Bool) (knows : List ℕ → Type 0) (s : Superblock) (old
     });
   }
 
-  pub ran : (r : Result Root RunFault) → PhasesReport knows (λ bytes. phase_lines bytes s) old.report b r →
+  pub ran : (r : Result Root RunFault) → ReportsAllPhases knows (λ bytes. phase_lines bytes s) old.report b r →
       ImageAfter old.image new.image r →
       IfOk r (λ root. ForBytes knows (λ bytes. is_go root ≡ continues_after_root (volume_of s.layout bytes))) →
-      MakesEnd had_defect b new.report r end → PhasesEnd knows s (at_output old) (at_output new) end
+      MakesEnd had_defect b new.report r end → EndsAfterPhases knows s (at_output old) (at_output new) end
   ran (Ok root) p none_failed by_root e = whole root p none_failed by_root e
   ran (Err (Read fault)) p f by_root e =
       cut fault.sector p.prefix.messages p.rest p.prefix.right p.more p.prefix.said f e
@@ -120,7 +120,7 @@ module _ (had_defect : Bool) (knows : List ℕ → Type 0) (s : Superblock) (old
 
 -- the report has its output still
 pub same_output : (knows : List ℕ → Type 0) (all : List ℕ → List Message) (had_defect : Bool) (a b c : Progress)
-    (r : Result Root RunFault) (end : End) → PhasesReport knows all a b r → MakesEnd had_defect b c r end →
+    (r : Result Root RunFault) (end : End) → ReportsAllPhases knows all a b r → MakesEnd had_defect b c r end →
     c.output ≡ a.output
 same_output knows all had_defect a b c (Ok root) end p e = ap (λ (x : Progress). x.output) e.0 ∙ p.said.said.output
 same_output knows all had_defect a b c (Err (Read fault)) end p e = elim e [
@@ -132,7 +132,7 @@ same_output knows all had_defect a b c (Err (Out fault)) end p e =
 
 -- how the phases end is known where more is known
 pub ran_known : (knows known : List ℕ → Type 0) (s : Superblock) (old new : Moment) (end : End) → ForBytes knows known →
-    PhasesEnd known s old new end → PhasesEnd knows s old new end
+    EndsAfterPhases known s old new end → EndsAfterPhases knows s old new end
 ran_known knows known s old new end more ran = record {
   text = ran.text;
   right = λ bytes k. ran.right bytes (more bytes k);

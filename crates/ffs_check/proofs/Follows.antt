@@ -10,11 +10,11 @@ use Rattle.ffs_volume.specs.Report.Whole.{end_by, report_of, report_end, EndAgre
 use Rattle.ffs_report.specs.{Sink.Took, Progress.Progress}
 use Rattle.ffs_image.specs.Known.{IsContents}
 use Rattle.ffs_layout.specs.{declared.superblock.Super.Super, Super.{ReadsSuper, superblock_in}}
-use Rattle.ffs_check.specs.{Ends.Cut, Headline.{Headline, IsCutShort, IsEndOfReport}, Moment.{Moment, ReportMoment}}
+use Rattle.ffs_check.specs.{Ends.Cut, Headline.{Headline, IsCutOfReport, IsEndOfReport}, Moment.{Moment, ReportMoment}}
 use Rattle.ffs_volume.specs.Report.Headings.{headings_before}
 use Rattle.ffs_check.{specs.Headings.{TookSections}, proofs.Sections.{HeadingsOfCheck, HeadingsWentOut}}
-use Rattle.ffs_check.specs.{Moment.at_output, Opening.OpeningOf, PhaseEnds.{IsCutByRead, IsEndByRoot, LastStops}}
-use Rattle.ffs_check.{specs.PhaseEnds.{SaysNoMemory, SaysRest}, proofs.Openings.{found_of, no_defect_head, unfailed_of}}
+use Rattle.ffs_check.specs.{Moment.at_output, Opening.OpeningOf, AllPhases.{IsCutByRead, IsEndByRoot, LastStops}}
+use Rattle.ffs_check.{specs.AllPhases.{SaysNoMemory, SaysRest}, proofs.Openings.{found_of, no_defect_head, unfailed_of}}
 use Rattle.ffs_check.proofs.{Endings.{at_contents, at_known}, EndLaws.{cut_after, ends_after, line_after, took_messages}}
 use Rattle.ffs_check.proofs.Headlines.{whole_there, defect_there, end_of_there, end_there, certifies, last_says}
 
@@ -91,7 +91,7 @@ module _ (name : List ℕ) (sector : Option ℕ) (old : Moment) (s : Superblock)
 
     -- what a failed read leaves of the report
     later : (cut : Cut) → IsCutByRead (IsContents old.image.contents) text old.image new.image cut →
-        IsCutShort name sector old.image new.image (opening_lines name sector (Ok s) ++ text)
+        IsCutOfReport name sector old.image new.image (opening_lines name sector (Ok s) ++ text)
         (cut_after (opening_lines name sector (Ok s)) cut)
     later cut c = inr (inl (record {
       faulted = faulted_there old.image new.image c.sector c.faulted;

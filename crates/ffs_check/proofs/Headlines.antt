@@ -14,7 +14,7 @@ use Rattle.ffs_report.specs.Sink.{BrokeOff, Took}
 use Rattle.ffs_layout.specs.Super.{ReadsSuper}
 use Rattle.ffs_certificate.proofs.ReportLaws.{certified}
 use Rattle.ffs_check.{specs.{Ends.BrokeOffAfter, Headline.{Certifies, Headline}}, proofs.Sections.HeadingsOfCheck}
-use Rattle.ffs_check.{specs.{Moment.Moment, PhaseEnds.can_end_report, Opening.OpeningOf}, proofs.EndLaws.broke_after}
+use Rattle.ffs_check.{specs.{Moment.Moment, AllPhases.can_end_report, Opening.OpeningOf}, proofs.EndLaws.broke_after}
 use Rattle.ffs_check.proofs.{EndLaws.broke_more, Endings.{at_contents, at_known}, Openings.no_defect_head}
 
 -- ---- the report, in its parts

@@ -11,7 +11,7 @@ use Rattle.ffs_report.proofs.Reports.{said_none, said_then, stopped_after}
 use Rattle.ffs_pathnames.specs.declared.pass2.Root.{Root, TheVariants.{Go, Stop}}
 use Rattle.ffs_volume.specs.Report.Headings.{HasSections, all_headings, headings_before}
 use Rattle.ffs_check.specs.Headings.{TookSections}
-use Rattle.ffs_check.{specs.PhaseEnds.{MakesEnd, SaysSections}, proofs.EndLaws.took_messages}
+use Rattle.ffs_check.{specs.AllPhases.{MakesEnd, SaysSections}, proofs.EndLaws.took_messages}
 
 -- ---- a text and its sections
 -- a further section

@@ -18,7 +18,7 @@ use Rattle.ffs_report.{specs.declared.fault.RunFault.TheVariants.{Read, Out}, pr
 use Rattle.ffs_report.proofs.{Reporting.{of_part, of_fault, said_knows, reports_knowing}, Paying.paid_answer}
 use Rattle.ffs_report.proofs.Paying.{paid_fault, paid_none, paid_then, paid_within}
 use Rattle.ffs_volume.proofs.Results.{at_error, on_any}
-use Rattle.ffs_check.specs.{PhaseEnds.{HaveRun, AnswersAfterPhases, SaidWhole}}
+use Rattle.ffs_check.specs.{AllPhases.{HaveRun, AnswersAfterPhases, SaidWhole}}
 use Rattle.ffs_volume.specs.Report.Whole.{phase1_messages, phase1b_messages_if_dups, phase2_messages, phase3_messages, phase4_messages, phase5_messages}
 use Rattle.ffs_volume.specs.Report.Whole.{summary_messages}
 use Rattle.ffs_check.proofs.RestOfText.{from_phase2, after_phase2}

@@ -5,7 +5,7 @@ use Rattle.ffs_memory.specs.{Account.{Account, unused}, System.account_of, decla
 use Rattle.ffs_volume.specs.declared.End.{End, TheVariants.{Consistent, Defects, RootStop, WriteFault, NoMemory}}
 use Rattle.ffs_volume.specs.{Disk.{Outcome.outcome, Superblock.Superblock}, Report.{Whole.end_by, Memory.held_of}}
 use Rattle.ffs_layout.specs.{declared.superblock.Super.Super, Super.{ReadsSuper, superblock_in}}
-use Rattle.ffs_check.specs.{Moment.Moment, Opening.OpeningOf, PhaseEnds.PhasesEnd}
+use Rattle.ffs_check.specs.{Moment.Moment, Opening.OpeningOf, AllPhases.EndsAfterPhases}
 use Rattle.ffs_check.specs.{Costs.{Costs, CostsOfSystem, CostsOfVolume}, Reads.ReadsByMessages, Taken.AsksMemory}
 use Rattle.ffs_check.proofs.AnyReading.{opened_reads}
 use Rattle.ffs_volume.specs.Report.{Opening.opening_lines, Reads.{opening_reads, phase_reads}}
@@ -44,7 +44,7 @@ not_broken e = (let w : WriteFault ≡ NoMemory = e in cc)
 
 -- phases that have run don't end as `NoMemory`
 pub not_for_memory : (knows : List ℕ → Type 0) (s : Superblock) (old new : Moment) (end : End) →
-    PhasesEnd knows s old new end → end ≡ NoMemory → ⊥
+    EndsAfterPhases knows s old new end → end ≡ NoMemory → ⊥
 not_for_memory knows s old new end ran e = grind (arith, not_by, not_broken)
 
 -- nor does an opening

@@ -56,19 +56,20 @@ pub record IsCutByMemory (name : List ℕ) (asked_sector : Option ℕ) (image im
 
 -- a read failed or the memory was refused: what is said before the line that says so, that line,
 -- and the end
-abbrev pub IsCutShort : List ℕ → Option ℕ → (image image' : Device) → List Message → Cut → Type 0
-IsCutShort name asked_sector image image' text cut =
+abbrev pub IsCutOfReport : List ℕ → Option ℕ → (image image' : Device) → List Message → Cut → Type 0
+IsCutOfReport name asked_sector image image' text cut =
     IsCutAtSuper name asked_sector image image' cut
     ⊎ (IsCutLater name asked_sector image image' text cut
     ⊎ IsCutByMemory name asked_sector image image' cut)
 
 -- the headline: `text` is the whole report where the image gives its bytes. It was printed whole; or
 -- cut short by a failed read or refused memory, whose line was printed last; or the output failed.
--- Of any image the phases' headings were printed in their order, after the opening of an accepted superblock
+-- Of any image the headings that `headings_before` gives for this end were printed, in order, after the opening of an
+-- accepted superblock
 pub record Headline (name : List ℕ) (asked_sector : Option ℕ) (old new : Moment) (end : End) : Type 0 where
   pub text : List Message
   pub is_report : ForContents old.image.contents (λ bytes. text ≡ report_of bytes name asked_sector)
   pub ends : Ends old new text (IsEndOfReport name asked_sector old.image text)
-      (IsCutShort name asked_sector old.image new.image text) end
+      (IsCutOfReport name asked_sector old.image new.image text) end
   pub headings : IfSome (headings_before end) (λ headings. (found : Superblock)
       × TookSections (opening_lines name asked_sector (Ok found)) old.out new.out headings)

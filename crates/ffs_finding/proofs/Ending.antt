@@ -16,12 +16,12 @@ use Rattle.ffs_image.specs.Device.{ForContents}
 use Rattle.ffs_finding.proofs.Printing.{reads_first}
 use Rattle.ffs_check.specs.{Moment.Moment}
 
-module _ (sector : Option ℕ) (target : Target) (m m' : Moment) (held held' : Account) (fault : SuperFault) (status : ℕ)
+module _ (target : Target) (sector : Option ℕ) (m m' : Moment) (held held' : Account) (fault : SuperFault) (status : ℕ)
   where
     ends_refused : ReadsSuper m.image m'.image sector (Err fault) →
-        IsUnreadableFor (InVolume sector target) m.image m'.image fault →
+        IsUnreadableFor (InVolume target sector) m.image m'.image fault →
         EndsByLine m.out m'.out (text_of (fault_line fault)) status →
-        FindEnds (InVolume sector target) m m' held held' status
+        FindEnds (InVolume target sector) m m' held held' status
     ends_refused p unreadable e = elim p [
       | inl failed ↦ inr (inr (inl (record {
         sector = m'.image.failed_sector;
@@ -46,8 +46,8 @@ ends_by_superblock : (command : Command) (m m' : Moment) (held held' : Account) 
     RefusesSuperblock command m.image m'.image fault → IsUnreadableFor command m.image m'.image fault →
     EndsByLine m.out m'.out (text_of (fault_line fault)) status → FindEnds command m m' held held' status
 ends_by_superblock Copies m m' held held' fault status p unreadable e = absurd p
-ends_by_superblock (InVolume sector target) m m' held held' fault status p unreadable e =
-    ends_refused sector target m m' held held' fault status p unreadable e
+ends_by_superblock (InVolume target sector) m m' held held' fault status p unreadable e =
+    ends_refused target sector m m' held held' fault status p unreadable e
 
 -- `b` is the output before the line of the fault
 pub ends : (command : Command) (m m' : Moment) (b : Sink) (held held' : Account) (answer : Result Bool FindFault)

@@ -26,12 +26,12 @@ refused (Owner fragment) v held held' p = p.rose
 module _ (target : Target) (sector : Option ℕ) (s : Superblock) (d : Device)
     (accepted : ForContents d.contents (λ b. outcome b sector ≡ Ok s)) where
   lines_are : ForBytes (IsContents d.contents)
-      (λ b. target_lines target sector b s ≡ command_lines (InVolume sector target) b)
+      (λ b. target_lines target sector b s ≡ command_lines (InVolume target sector) b)
   lines_are b k = sym (ap (lines_by (target_lines target sector b)) (accepted b k))
 
   printed : (rest : List ℕ → List (List ℕ)) (a b : Sink) →
       PrintedTo (WithSuper d sector s) rest (λ b. target_lines target sector b s) a b →
-      PrintedTo (IsContents d.contents) rest (command_lines (InVolume sector target)) a b
+      PrintedTo (IsContents d.contents) rest (command_lines (InVolume target sector)) a b
   printed rest a b p =
       record {
         lines = p.lines;
@@ -42,7 +42,7 @@ module _ (target : Target) (sector : Option ℕ) (s : Superblock) (d : Device)
   answers : (between before : ℕ) (a : Sink) (m : Moment) (held held' : Account) (r : Result Bool FindFault) →
       TargetAnswers target sector s (record { image = d; reads = between; out = a }) m r →
       TakesForTarget target s.layout held held' r →
-      Answers (InVolume sector target) (record { image = d; reads = before; out = a }) m held held' r
+      Answers (InVolume target sector) (record { image = d; reads = before; out = a }) m held held' r
   answers between before a m held held' (Ok defect) p t = (
     p.0,
     λ bytes k. ap is_ok (accepted bytes k),
@@ -71,7 +71,7 @@ module _ (target : Target) (sector : Option ℕ) (s : Superblock) (d : Device)
 
   -- the sector of a failed read, in the bytes in which this superblock is accepted
   places : (r : Result Bool FindFault) → FindFailsAt r (IsSectorFor target sector s) →
-      FindFailsAt r (λ at. ForContents d.contents (λ b. IsReadFor (InVolume sector target) b at))
+      FindFailsAt r (λ at. ForContents d.contents (λ b. IsReadFor (InVolume target sector) b at))
   places (Ok defect) p = tt
   places (Err (Refused fault)) p = tt
   places (Err (Failed (Read fault))) p = λ b k. inr (rw (accepted b k) p)
@@ -96,7 +96,7 @@ asked bytes held held' (Err NoMemory) p = inr p
 takes : (target : Target) (sector : Option ℕ) (s : Superblock) (d : Device) (held held' : Account)
     (r : Result Bool FindFault) → ForContents d.contents (λ b. outcome b sector ≡ Ok s) →
     IsAcceptedLayout s.layout → s.layout.size * s.layout.fsize ≤ d.size →
-    TakesForTarget target s.layout held held' r → TakesMemory (InVolume sector target) d held held'
+    TakesForTarget target s.layout held held' r → TakesMemory (InVolume target sector) d held held'
 takes (Inode number) sector s d held held' r accepted sound inside p = p.0
 takes Fields sector s d held held' r accepted sound inside p = p.0
 takes Lost sector s d held held' r accepted sound inside p = grind arith
@@ -109,7 +109,7 @@ pub answered : (target : Target) (sector : Option ℕ) (s : Superblock) (d : Dev
     s.layout.size * s.layout.fsize ≤ d.size → between ≤ before + 2 →
     FindsTarget target sector s (record { image = d; reads = between; out = a }) m r →
     TakesForTarget target s.layout held held' r →
-    AnswersCommand (InVolume sector target) (record { image = d; reads = before; out = a }) m held held' r
+    AnswersCommand (InVolume target sector) (record { image = d; reads = before; out = a }) m held held' r
 answered target sector s d before between a m held held' r accepted sound inside opened p t = record {
   answers = answers target sector s d accepted between before a m held held' r p.answer t;
   place = places target sector s d accepted r p.place;

@@ -54,9 +54,9 @@ pub record IsNumbered (word : Text) (o : Operands) (n : ℕ) (name : Text) : Typ
 -- the operands ask for this command, of the image of this name
 abbrev pub OperandsAskFor : Operands → Command → (name : Text) → Type 0
 OperandsAskFor o Copies name = IsPlain (codes "copies") o name × (o.sector ≡ None)
-OperandsAskFor o (InVolume sector (Inode number)) name =
+OperandsAskFor o (InVolume (Inode number) sector) name =
     IsNumbered (codes "inode") o number name × (sector ≡ o.sector)
-OperandsAskFor o (InVolume sector Fields) name = IsPlain (codes "fields") o name × (sector ≡ o.sector)
-OperandsAskFor o (InVolume sector Lost) name = IsPlain (codes "lost") o name × (sector ≡ o.sector)
-OperandsAskFor o (InVolume sector (Owner fragment)) name =
+OperandsAskFor o (InVolume Fields sector) name = IsPlain (codes "fields") o name × (sector ≡ o.sector)
+OperandsAskFor o (InVolume Lost sector) name = IsPlain (codes "lost") o name × (sector ≡ o.sector)
+OperandsAskFor o (InVolume (Owner fragment) sector) name =
     IsNumbered (codes "owner") o fragment name × (sector ≡ o.sector)

@@ -39,17 +39,17 @@ finds_defects (Owner fragment) = false
 -- a line of the command is a defect
 abbrev pub command_finds_defects : Command → Bool
 command_finds_defects Copies = false
-command_finds_defects (InVolume sector target) = finds_defects target
+command_finds_defects (InVolume target sector) = finds_defects target
 
 -- the superblock of the command's volume is accepted in these bytes; `copies` asks for no volume
 abbrev pub IsAcceptedIn : Command → (image : List ℕ) → Type 0
 IsAcceptedIn Copies image = ⊤
-IsAcceptedIn (InVolume sector target) image = IsOk (outcome image sector)
+IsAcceptedIn (InVolume target sector) image = IsOk (outcome image sector)
 
 -- the superblock of the command's volume is refused by this fault, in the bytes that the image gives
 abbrev pub IsRefusedBy : Command → SuperFault → Device → Type 0
 IsRefusedBy Copies fault d = ⊥
-IsRefusedBy (InVolume sector target) fault d = ForContents d.contents (λ b. outcome b sector ≡ Err fault)
+IsRefusedBy (InVolume target sector) fault d = ForContents d.contents (λ b. outcome b sector ≡ Err fault)
 
 -- the lines by an outcome: those of a target, and none where the superblock is refused
 abbrev pub lines_by : (Superblock → List (List ℕ)) → Result Superblock SuperFault → List (List ℕ)
@@ -59,7 +59,7 @@ lines_by lines (Err fault) = []
 -- all lines that a command finds in an image
 abbrev pub command_lines : Command → (image : List ℕ) → List (List ℕ)
 command_lines Copies image = copies_lines image
-command_lines (InVolume sector target) image = lines_by (target_lines target sector image) (outcome image sector)
+command_lines (InVolume target sector) image = lines_by (target_lines target sector image) (outcome image sector)
 
 -- the status of an answer: 1 where a defect was found
 abbrev pub status_of_answer : Bool → ℕ
@@ -156,13 +156,13 @@ EndsBy old new (Err NoMemory) status = EndsByLine old new (text_of cannot_alloc)
 -- ends before it does
 abbrev pub IsUnreadableFor : Command → (d d' : Device) → SuperFault → Type 0
 IsUnreadableFor Copies d d' fault = ⊥
-IsUnreadableFor (InVolume sector target) d d' fault =
+IsUnreadableFor (InVolume target sector) d d' fault =
     (at : ℕ) → fault ≡ CannotRead at → IsUnreadable d d' sector at
 
 -- the superblock is refused: a read of it failed, or this is its fault in the image's bytes
 abbrev pub RefusesSuperblock : Command → (d d' : Device) → SuperFault → Type 0
 RefusesSuperblock Copies d d' fault = ⊥
-RefusesSuperblock (InVolume sector target) d d' fault = ReadsSuper d d' sector (Err fault)
+RefusesSuperblock (InVolume target sector) d d' fault = ReadsSuper d d' sector (Err fault)
 
 -- what a command answers, before the line of a fault
 abbrev pub Answers : Command → (old new : Moment) → (before after : Account) → Result Bool FindFault → Type 0
@@ -201,7 +201,7 @@ pub record SuperRefused (command : Command) (old new : Moment) (status : ℕ) : 
 -- nothing is said
 abbrev pub IsReadFor : Command → (image : List ℕ) → (at : ℕ) → Type 0
 IsReadFor Copies image at = ⊤
-IsReadFor (InVolume sector target) image at =
+IsReadFor (InVolume target sector) image at =
     IsSuperSector image sector at ⊎ IfOk (outcome image sector) (λ s. IsSectorFor target sector s at)
 
 -- a read failed: whole lines were printed, and then the line that says so, perhaps a part of that
@@ -237,10 +237,10 @@ FindEnds command old new before after status =
 -- what a command takes of the memory: `copies` a window, `lost` and `owner` the workspace of a check
 abbrev pub TakesMemory : Command → Device → (before after : Account) → Type 0
 TakesMemory Copies d before after = AsksMemory before after window_bytes
-TakesMemory (InVolume sector (Inode number)) d before after = after ≡ before
-TakesMemory (InVolume sector Fields) d before after = after ≡ before
-TakesMemory (InVolume sector Lost) d before after = Takes d sector before after
-TakesMemory (InVolume sector (Owner fragment)) d before after = Takes d sector before after
+TakesMemory (InVolume (Inode number) sector) d before after = after ≡ before
+TakesMemory (InVolume Fields sector) d before after = after ≡ before
+TakesMemory (InVolume Lost sector) d before after = Takes d sector before after
+TakesMemory (InVolume (Owner fragment) sector) d before after = Takes d sector before after
 
 -- the volume is accepted, and lies in the image: after its superblock it is read for a target as its layout says
 pub record ReadsVolume (target : Target) (sector : Option ℕ) (d : Device) (before after : ℕ) : Type 0 where
@@ -253,7 +253,7 @@ pub record ReadsVolume (target : Target) (sector : Option ℕ) (d : Device) (bef
 -- how often a command reads an image: in a volume the superblock, and what a target takes after it
 abbrev pub ReadsForCommand : Command → Device → (before after : ℕ) → Type 0
 ReadsForCommand Copies d before after = ReadsCopies d before after
-ReadsForCommand (InVolume sector target) d before after =
+ReadsForCommand (InVolume target sector) d before after =
     (after ≤ before + opening_reads) ⊎ ReadsVolume target sector d before after
 
 -- what a command asks for was found; the line of a fault is still to come

@@ -15,7 +15,7 @@ use Rattle.ffs_walk.specs.declared.window.Window.{Window}
 use Rattle.ffs_workspace.specs.{Ready.CanRead, declared.workspace.Workspace.Workspace}
 use Rattle.ffs_finding.specs.Claims.{WithBlocks}
 use Rattle.ffs_check.specs.Moment.{Moment}
-use Rattle.ffs_finding.specs.{Outcome.Finds, declared.owner.Sought.Sought}
+use Rattle.ffs_finding.specs.{Outcome.Finds, declared.owner.{KeptRun.KeptRun, Sought.Sought}}
 
 -- ---- the map of a group
 -- what the map of its group says of the fragment f can be printed: the volume has f, and its group block is there
@@ -39,10 +39,11 @@ map_lines v image f = map_text v (group_block v image (group_of_fragment v f)) f
 abbrev pub is_in_run : (f start taken : ℕ) → Bool
 is_in_run f start taken = nat_le start f && nat_lt f (start + taken)
 
--- the bytes of the line of a Run, where so many of its fragments are kept. `earlier` counts the indirect
--- blocks of the inode x before it
-abbrev pub run_text : (f x earlier start taken : ℕ) → Option ℕ → List ℕ
-run_text f x earlier start taken block = if is_in_run f start taken then keeper_text x earlier block else []
+-- the bytes of the line of a Run, if one of its fragments that are kept is sought. `earlier` counts the indirect
+-- blocks of the inode before it
+abbrev pub run_text : Sought → (earlier : ℕ) → KeptRun → List ℕ
+run_text s earlier run =
+    if is_in_run s.fragment run.start run.taken then keeper_text s.number earlier run.block else []
 
 -- the lines of a step and of steps
 abbrev pub step_lines_again : Layout → (f x earlier cut : ℕ) → Replay → Step → List (List ℕ)

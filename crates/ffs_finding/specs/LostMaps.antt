@@ -1,4 +1,4 @@
--- The map of a group as the program has it, and what it prints of it.
+-- The map of a group as the program compares it with what is used, and what it prints of it.
 use Rattle.std.specs.Prelude.{◌≡◌, ◌≤◌, ◌<◌, ◌+◌, ◌-◌, ◌*◌, ℕ, Bool, not, ◌&&◌, List, [], ◌∷◌, codes, length, Result}
 use Rattle.std.specs.{Prelude.vec_len, List.flat_map, Int.div_ceil}
 use Rattle.ffs_image.specs.Device.{Device}
@@ -10,7 +10,7 @@ use Rattle.ffs_report.specs.declared.fault.RunFault.{RunFault}
 use Rattle.ffs_image.specs.Known.{IsContents}
 use Rattle.ffs_walk.specs.{Windows.WindowHolds, declared.window.Window.Window}
 use Rattle.ffs_check.specs.Moment.{Moment}
-use Rattle.ffs_finding.specs.{Outcome.FindsAny, declared.lost.{GroupMap.GroupMap, Wrong.Wrong}}
+use Rattle.ffs_finding.specs.{Outcome.FindsAny, declared.lost.{ComparedMap.ComparedMap, Wrong.Wrong}}
 use Rattle.ffs_finding.specs.declared.lost.Wrong.TheVariants.{Lost, MarkedFree}
 
 -- the word before the fragments about which a map is wrong in this way
@@ -24,25 +24,25 @@ is_wrong_by Lost free marked = free && not marked
 is_wrong_by MarkedFree free marked = marked && not free
 
 -- a map is wrong about f in this way
-abbrev pub is_wrong_at : Wrong → GroupMap → ℕ → Bool
+abbrev pub is_wrong_at : Wrong → ComparedMap → ℕ → Bool
 is_wrong_at how m f =
     is_wrong_by how (free_in (bits_of m.used.now) m.used.now.size f) (bit_at m.block.now m.place (f - m.base))
 
 -- the map is of fragments of the volume, and lies in its block
-pub record IsGroupMap (m : GroupMap) : Type 0 where
+pub record IsComparedMap (m : ComparedMap) : Type 0 where
   pub order : m.base ≤ m.end
   pub below : m.end ≤ m.used.now.size
   pub inside : m.place + div_ceil (m.end - m.base) 8 ≤ length m.block.now
 
 -- f is a fragment of the map
-pub record IsInMap (m : GroupMap) (f : ℕ) : Type 0 where
-  pub map : IsGroupMap m
+pub record IsInMap (m : ComparedMap) (f : ℕ) : Type 0 where
+  pub map : IsComparedMap m
   pub low : m.base ≤ f
   pub high : f < m.end
 
 -- f is a fragment of the map, or the one after its last
-pub record IsInMapOrEnd (m : GroupMap) (f : ℕ) : Type 0 where
-  pub map : IsGroupMap m
+pub record IsInMapOrEnd (m : ComparedMap) (f : ℕ) : Type 0 where
+  pub map : IsComparedMap m
   pub low : m.base ≤ f
   pub high : f ≤ m.end
 

@@ -88,7 +88,7 @@ fn find<M: Memory, I: Image, W: Output>(
 {
     match command {
         Command::Copies => find_copies_by_window(memory, image, out),
-        Command::InVolume { sector, target } => find_in_volume(memory, image, sector, target, out),
+        Command::InVolume { target, sector } => find_in_volume(memory, image, target, sector, out),
     }
 }
 
@@ -112,16 +112,16 @@ fn find_copies_by_window<M: Memory, I: Image, W: Output>(
 fn find_in_volume<M: Memory, I: Image, W: Output>(
     memory: &mut M,
     image: &mut I,
-    sector: Option<u32>,
     target: Target,
+    sector: Option<u32>,
     out: &mut W,
 ) -> Result<bool, FindFault>
-    ensures { AnswersCommand (InVolume sector target) (moment I.Image W.Output image.old out.old)
+    ensures { AnswersCommand (InVolume target sector) (moment I.Image W.Output image.old out.old)
         (moment I.Image W.Output image.new out.new) (M.account memory.old) (M.account memory.new)
         result }
 {
     match read_super(image, sector) {
-        Ok(superblock) => find_in_accepted(memory, image, sector, target, &superblock, out),
+        Ok(superblock) => find_in_accepted(memory, image, target, sector, &superblock, out),
         Err(fault) => Err(FindFault::Refused(fault)),
     }
 }
@@ -134,8 +134,8 @@ fn find_in_volume<M: Memory, I: Image, W: Output>(
 fn find_in_accepted<M: Memory, I: Image, W: Output>(
     memory: &mut M,
     image: &mut I,
-    sector: Option<u32>,
     target: Target,
+    sector: Option<u32>,
     superblock: &Super,
     out: &mut W,
 ) -> Result<bool, FindFault>

@@ -10,7 +10,7 @@
 //!
 //! ```text
 //! let target = Target::Inode { number: 2 };
-//! let command = Command::InVolume { sector: None, target };
+//! let command = Command::InVolume { target, sector: None };
 //! let status = find_in(&mut memory, &mut image, command, &mut out);
 //! ```
 //!

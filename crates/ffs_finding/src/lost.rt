@@ -6,7 +6,7 @@ ghost use Rattle.ffs_report.specs.Sink.{Prints};
 ghost use Rattle.ffs_workspace.specs.Ready.{IsReady};
 ghost use Rattle.ffs_check.specs.Moment.{moment};
 ghost use Rattle.ffs_finding.specs.{Claims.WithBlocks, Outcome.{FindsAny, PrintsWhether}, LostMaps.{CanReadGroups, word_of}};
-ghost use Rattle.ffs_finding.specs.LostMaps.{CanSayGroup, FindsWrong, IsBlockWindow, IsGroupMap, IsInMap, IsInMapOrEnd, IsNext};
+ghost use Rattle.ffs_finding.specs.LostMaps.{CanSayGroup, FindsWrong, IsBlockWindow, IsComparedMap, IsInMap, IsInMapOrEnd, IsNext};
 ghost use Rattle.ffs_finding.specs.LostMaps.{is_wrong_at, lines_of_group, no_map_lines};
 ghost use Rattle.ffs_volume.specs.Find.Lost.{lost_lines, range_text, stretch_lines};
 
@@ -41,9 +41,9 @@ impl Wrong {
     }
 }
 
-/// The fragments of a group, and the map of its block.
+/// The map of a group, and the fragments that are used, with which it is compared.
 #[derive(Clone, Copy)]
-struct GroupMap<'a> {
+struct ComparedMap<'a> {
     /// The fragments of the volume that are reserved or claimed.
     used: &'a FragmentMap,
     /// The first fragment of the group.
@@ -57,7 +57,7 @@ struct GroupMap<'a> {
 }
 
 /// Whether the map is wrong about a fragment of the group in this way.
-fn is_wrong(map: &GroupMap<'_>, how: Wrong, fragment: u32) -> bool
+fn is_wrong(map: &ComparedMap<'_>, how: Wrong, fragment: u32) -> bool
     requires { IsInMap map.now fragment }
     ensures { result ≡ is_wrong_at how map.now fragment }
 {
@@ -71,7 +71,7 @@ fn is_wrong(map: &GroupMap<'_>, how: Wrong, fragment: u32) -> bool
 
 /// The first fragment of the group, from one on, of which `is_wrong` is `wanted`, and the one after
 /// the group's last where there is none.
-fn first_with(map: &GroupMap<'_>, how: Wrong, from: u32, wanted: bool) -> u32
+fn first_with(map: &ComparedMap<'_>, how: Wrong, from: u32, wanted: bool) -> u32
     requires { IsInMapOrEnd map.now from }
     ensures { IsNext (is_wrong_at how map.now) wanted from map.now.end result }
 {
@@ -101,8 +101,8 @@ fn print_range<W: Output>(out: &mut W, word: &[u8], first: u32, last: u32) -> Re
 }
 
 /// Prints the ranges of the fragments of a group about which its map is wrong in this way.
-fn print_ranges<W: Output>(out: &mut W, map: &GroupMap<'_>, how: Wrong) -> Result<bool, OutFault>
-    requires { IsGroupMap map.now }
+fn print_ranges<W: Output>(out: &mut W, map: &ComparedMap<'_>, how: Wrong) -> Result<bool, OutFault>
+    requires { IsComparedMap map.now }
     ensures { PrintsWhether (stretch_lines (word_of how) (is_wrong_at how map.now) map.now.base
         map.now.end) (W.sink out.old) (W.sink out.new) result }
 {
@@ -152,7 +152,7 @@ fn print_group<W: Output>(
         return Ok(false);
     }
     let base = geometry.cgbase(group);
-    let map = GroupMap {
+    let map = ComparedMap {
         used,
         base,
         end: base + group_fragments(geometry, group),

@@ -157,25 +157,33 @@ struct Sought {
     cut: u32,
 }
 
-/// Prints the line of a Run, where the fragment is one of its first ones that are taken. `earlier`
-/// counts the indirect blocks of the inode before it.
+/// A Run of which an inode keeps an offer.
+#[derive(Clone, Copy, Debug)]
+struct KeptRun {
+    /// Its first fragment.
+    start: u32,
+    /// How many of its fragments are kept: the first ones.
+    taken: u32,
+    /// Its logical block, and none for that of an indirect block.
+    block: Option<u64>,
+}
+
+/// Prints the line of a Run, where the fragment is one of those that are kept. `earlier` counts the
+/// indirect blocks of the inode before it.
 fn print_run<W: Output>(
     out: &mut W,
     sought: Sought,
     earlier: u64,
-    start: u32,
-    taken: u32,
-    block: Option<u64>,
+    run: KeptRun,
 ) -> Result<(), OutFault>
     requires { earlier + 1 < 2 ^ 64 }
-    ensures { Prints (W.sink out.old) (W.sink out.new)
-        (run_text sought.fragment sought.number earlier start taken block) result }
+    ensures { Prints (W.sink out.old) (W.sink out.new) (run_text sought earlier run) result }
 {
-    if sought.fragment < start || sought.fragment - start >= taken {
+    if sought.fragment < run.start || sought.fragment - run.start >= run.taken {
         return Ok(());
     }
     let number = u64::from(sought.number);
-    let (text, value): (&[u8], u64) = match block {
+    let (text, value): (&[u8], u64) = match run.block {
         Some(block) => (b" block ", block),
         None => (b" indirect block ", earlier + 1),
     };
@@ -206,7 +214,12 @@ fn print_step<W: Output>(
     match step {
         Step::Run { start, len, block } => {
             let taken = keeping.take(len, geometry.in_range(start, len));
-            print_run(out, sought, earlier, start, taken, block)
+            let run = KeptRun {
+                start,
+                taken,
+                block,
+            };
+            print_run(out, sought, earlier, run)
         }
         Step::Tail | Step::Gap => Ok(()),
     }

@@ -20,5 +20,5 @@ pub enum Command {
     Copies,
     /// Something in the volume whose superblock is at a sector, of 512 bytes, or at the usual
     /// place.
-    InVolume { sector: Option<u32>, target: Target },
+    InVolume { target: Target, sector: Option<u32> },
 }

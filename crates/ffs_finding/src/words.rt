@@ -87,12 +87,12 @@ fn asked_without_number<'a>(operands: &Operands<'a>) -> Option<Asked<'a, Command
     }
     if operands.command == "fields" {
         let target = Target::Fields;
-        let request = Command::InVolume { sector, target };
+        let request = Command::InVolume { target, sector };
         return Some(Asked { name, request });
     }
     if operands.command == "lost" {
         let target = Target::Lost;
-        let request = Command::InVolume { sector, target };
+        let request = Command::InVolume { target, sector };
         return Some(Asked { name, request });
     }
     None
@@ -125,7 +125,7 @@ pub(crate) fn asked_of<'a>(operands: &Operands<'a>) -> Option<Asked<'a, Command>
     };
     match numbered_target(operands.command, number) {
         Some(target) => {
-            let request = Command::InVolume { sector, target };
+            let request = Command::InVolume { target, sector };
             Some(Asked { name, request })
         }
         None => None,

@@ -4,7 +4,7 @@ use Rattle.ffs_volume.specs.{declared.End.End, Disk.Superblock.Superblock}
 use Rattle.ffs_layout.specs.Super.{superblock_in}
 use Rattle.ffs_report.specs.{Progress.Progress, Sink.Sink}
 use Rattle.ffs_workspace.specs.declared.workspace.Workspace.{Workspace}
-use Rattle.ffs_check.{specs.PhaseEnds.RunsToEnd, proofs.Endings.opening_defect}
+use Rattle.ffs_check.{specs.AllPhases.RunsToEnd, proofs.Endings.opening_defect}
 use Rattle.ffs_check.proofs.check.check_rest.Goals as goal
 
 pub run_to_end-requires : goal.run_to_end-requires

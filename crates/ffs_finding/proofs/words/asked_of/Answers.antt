@@ -9,11 +9,11 @@ none_asked : (o : Operands) (image : List ℕ) (n : ℕ) → o.second ≡ Some i
     ((m : ℕ) → IsNumber o.first m → m ≡ n) → ((target : Target) → IsTarget o.command n target → ⊥) →
     (command : Command) (name : List ℕ) → OperandsAskFor o command name → ⊥
 none_asked o image n there value none Copies name p = let no : Some image ≡ None = sym there ∙ p.0.alone in cc
-none_asked o image n there value none (InVolume sector (Inode m)) name p =
+none_asked o image n there value none (InVolume (Inode m) sector) name p =
     none (Inode m) (p.0.word_is, value m p.0.number)
-none_asked o image n there value none (InVolume sector Fields) name p = grind arith
-none_asked o image n there value none (InVolume sector Lost) name p = grind arith
-none_asked o image n there value none (InVolume sector (Owner m)) name p =
+none_asked o image n there value none (InVolume Fields sector) name p = grind arith
+none_asked o image n there value none (InVolume Lost sector) name p = grind arith
+none_asked o image n there value none (InVolume (Owner m) sector) name p =
     none (Owner m) (p.0.word_is, value m p.0.number)
 
 pub returns-in-None : goal.returns-in-None

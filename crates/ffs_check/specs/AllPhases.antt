@@ -45,18 +45,18 @@ pub record SaidWhole (stops : Bool) (knows : List ℕ → Type 0) (all : List �
 -- PhaseReports of all phases together, which also says whether the last message stops the check, and that one is
 -- missing at a read's fault: all messages at Ok, whole ones but not all at that fault, a prefix of their bytes at
 -- a fault of the output
-abbrev pub PhasesReport : (List ℕ → Type 0) → (List ℕ → List Message) → (old new : Progress) →
+abbrev pub ReportsAllPhases : (List ℕ → Type 0) → (List ℕ → List Message) → (old new : Progress) →
     Result Root RunFault → Type 0
-PhasesReport knows all old new (Ok root) = SaidWhole (not (is_go root)) knows all old new
-PhasesReport knows all old new (Err (Read fault)) = SaidNotAll knows all old new
-PhasesReport knows all old new (Err (Out fault)) = StoppedOf knows all old new
+ReportsAllPhases knows all old new (Ok root) = SaidWhole (not (is_go root)) knows all old new
+ReportsAllPhases knows all old new (Err (Read fault)) = SaidNotAll knows all old new
+ReportsAllPhases knows all old new (Err (Out fault)) = StoppedOf knows all old new
 
 -- the phases have run: what they leave of the image; and, where the workspace held nothing before, what they reported,
 -- and whether the check continues after the root
 pub record HaveRun (s : Superblock) (w : Workspace) (old new : ReportMoment) (result : Result Root RunFault) : Type 0
   where
     pub image : ImageAfter old.image new.image result
-    pub text : PhasesReport (WithFresh s.layout old.image w) (λ bytes. phase_lines bytes s) old.report new.report
+    pub text : ReportsAllPhases (WithFresh s.layout old.image w) (λ bytes. phase_lines bytes s) old.report new.report
         result
     pub goes : IfOk result (λ root. ForBytes (WithFresh s.layout old.image w)
         (λ bytes. is_go root ≡ continues_after_root (volume_of s.layout bytes)))
@@ -127,7 +127,7 @@ pub record IsCutByRead (knows : List ℕ → Type 0) (text : List Message) (imag
 
 -- the messages of the phases on the image's bytes went out, or what a fault leaves of them. The end counts
 -- a defect that was reported among them, or in the opening. No end is `NoMemory`
-pub record PhasesEnd (knows : List ℕ → Type 0) (s : Superblock) (old new : Moment) (end : End) : Type 0 where
+pub record EndsAfterPhases (knows : List ℕ → Type 0) (s : Superblock) (old new : Moment) (end : End) : Type 0 where
   pub text : List Message
   pub right : ForBytes knows (λ bytes. text ≡ phase_lines bytes s)
   pub ends : Ends old new text (IsEndByRoot knows s text) (IsCutByRead knows text old.image new.image) end
@@ -146,7 +146,7 @@ can_end_report NoMemory = false
 -- the phases have run to an end: what went out, also of any image, how often they read an image that gives its
 -- bytes, and any image, what the workspace answers then, and its lists keep their lengths
 pub record RunsToEnd (s : Superblock) (w w' : Workspace) (old new : Moment) (end : End) : Type 0 where
-  pub ran : PhasesEnd (WithFresh s.layout old.image w) s old new end
+  pub ran : EndsAfterPhases (WithFresh s.layout old.image w) s old new end
   pub headings : IfSome (headings_before end) (TookSections [] old.out new.out)
   pub reads : PhasesRead (WithFresh s.layout old.image w) s old new
   pub answers : AnswersAfterPhases (can_end_report end) (WithFresh s.layout old.image w) s.layout w w'
@@ -157,7 +157,7 @@ pub record RunsToEnd (s : Superblock) (w w' : Workspace) (old new : Moment) (end
 abbrev pub SaysRest : Superblock → (old new : ReportMoment) → End → Type 0
 SaysRest s old new end =
     ((new.image ≡ old.image) × SaysNoMemory old.report new.report end)
-    ⊎ PhasesEnd (IsContents old.image.contents) s (at_output old) (at_output new) end
+    ⊎ EndsAfterPhases (IsContents old.image.contents) s (at_output old) (at_output new) end
 
 -- what an accepted superblock leads to: what is said, what is taken of the memory, and how often the
 -- image is read
