@@ -29,7 +29,7 @@ use Rattle.ffs_counts.specs.Summary.{SaysSummary}
 use Rattle.ffs_claims.specs.Phases.{IsLeftByPhase1, Phase1Keeps, Phase1Reads}
 use Rattle.ffs_pathnames.specs.{declared.pass2.Root.{Root, TheVariants.{Go, Stop}}, Phase2.{Phase2Ends, Phase2Reads}, RootAnswers.is_go}
 use Rattle.ffs_workspace.specs.{declared.workspace.Workspace.Workspace, Leaves.{LeavesBlockCheck, LeavesSurvey}}
-use Rattle.ffs_workspace.specs.{Ready.IsReady, Found.{WithFresh, WithClaims, WithSurvey, WithFindings}}
+use Rattle.ffs_workspace.specs.{Ready.IsReady, Found.{WithFresh, WithBlockCheck, WithSurvey, WithFindings}}
 use Rattle.ffs_workspace.specs.Holds.{HoldsBlockCheck, HoldsFindings}
 use Rattle.ffs_workspace.proofs.Leaving.{claims_held, claims_left, references_left, survey_left}
 use Rattle.ffs_check.proofs.Stages.{some_more, more_after, root_or_more, Left, each, Point, Given, Stage, report_at}
@@ -195,7 +195,7 @@ module _ (s : Superblock) where
   -- phase 2 answered a fault: its heading alone was said, or the check continues after the root
   says_root : {d on on' : Device} {w u : Workspace} {start report report' : Progress} {reads now : ℕ} (now' : ℕ)
       (u' : Workspace) (fault : RunFault) → Stage s d w start reads (phase1b_done s d w u) on report now →
-      Ran {T = Root} (WithClaims s.layout on u) (λ bytes. phase2_messages s.layout bytes) on on' report report' (Err fault) →
+      Ran {T = Root} (WithBlockCheck s.layout on u) (λ bytes. phase2_messages s.layout bytes) on on' report report' (Err fault) →
       Phase2Ends s.layout on u u' report report' (Err fault) →
       HaveRun s w (report_at d reads start) (report_at on' now' report') (Err fault)
   says_root now' u' (Read fault) at ran (inl said) =
@@ -227,7 +227,7 @@ module _ (s : Superblock) where
 
   -- phase 2 answered whether the check continues after the root, and left what it found
   root_left : (on : Device) (u u' : Workspace) (report report' : Progress) (root : Root) →
-      Phase2Ends s.layout on u u' report report' (Ok root) → ForBytes (WithClaims s.layout on u)
+      Phase2Ends s.layout on u u' report report' (Ok root) → ForBytes (WithBlockCheck s.layout on u)
       (λ bytes. (is_go root ≡ continues_after_root (volume_of s.layout bytes)) × HoldsFindings s.layout bytes u')
   root_left on u u' report report' Go left = λ bytes k. let both = left bytes k in (sym both.0, both.1)
   root_left on u u' report report' Stop left = λ bytes k. let both = left.0 bytes k in (sym both.0, both.1)
@@ -248,7 +248,7 @@ module _ (s : Superblock) where
         again.ready
 
     pub phase2_comes : (r : Result Root RunFault) → Stage s d w start reads (phase1b_done s d w u) on report now →
-        Ran (WithClaims s.layout on u) (λ bytes. phase2_messages s.layout bytes) on on' report report' r →
+        Ran (WithBlockCheck s.layout on u) (λ bytes. phase2_messages s.layout bytes) on on' report report' r →
         Phase2Reads s.layout on u now now' → Paid line_reads report report' (now + 4 * sweep_reads s.layout) now' r →
         Phase2Ends s.layout on u u' report report' r → LeavesBlockCheck u u' →
         IsReady s.layout on' u' → Comes r (λ root. Stage s d w start reads (phase2_done s d w u' root) on' report' now')
@@ -322,7 +322,7 @@ module _ (s : Superblock) where
 
     pub phase5_comes : {T : Type 0} (r : Result T RunFault) {root : Root} →
         Stage s d w start reads (phase4_done s d w u root) on report now →
-        Ran (WithClaims s.layout on u) (λ bytes. phase5_messages bytes s) on on' report report' r →
+        Ran (WithBlockCheck s.layout on u) (λ bytes. phase5_messages bytes s) on on' report report' r →
         now' ≤ now + group_reads s.layout → u' ≡ record u { windows = u'.windows } → IsReady s.layout on' u' →
         Comes r (λ x. Stage s d w start reads (phase5_done s d w u' root) on' report' now')
         (λ fault. RunsPhases s d on' w u' start report' reads now' (Err fault))

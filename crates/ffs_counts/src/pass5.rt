@@ -8,7 +8,7 @@ ghost use Rattle.ffs_report.specs.{Progress.progress, Fails.FailsIn};
 ghost use Rattle.ffs_report.specs.PhaseOutcome.{HeadingFirst, ImageAfter, PhaseReports};
 ghost use Rattle.ffs_volume.specs.Messages.Kinds as messages;
 ghost use Rattle.ffs_counts.specs.Records.{IsGroupSector};
-ghost use Rattle.ffs_workspace.specs.{Found.WithClaims, Ready.IsReady};
+ghost use Rattle.ffs_workspace.specs.{Found.WithBlockCheck, Ready.IsReady};
 
 use crate::groups::read_group;
 use crate::once::{AlreadyReported, say_group, say_unless};
@@ -37,7 +37,7 @@ pub fn phase5<I: Image, W: Output>(
     requires ready { IsReady superblock.now.geometry.layout (I.device image.old) workspace.old }
     ensures faults { ImageAfter (I.device image.old) (I.device image.new) result }
     ensures text { PhaseReports
-        (WithClaims superblock.now.geometry.layout (I.device image.old) workspace.old)
+        (WithBlockCheck superblock.now.geometry.layout (I.device image.old) workspace.old)
         (λ bytes. phase5_messages bytes (superblock_in superblock.now))
         (progress W.sink report.old) (progress W.sink report.new) result }
     ensures heading { HeadingFirst messages.phase5 (progress W.sink report.old)

@@ -12,7 +12,7 @@ ghost use Rattle.ffs_layout.specs.Entry.{entry_value};
 ghost use Rattle.ffs_volume.specs.Directories.{Entries.entries_of, Roles.{is_dir, role_of as role_in, roled_chunk}};
 ghost use Rattle.ffs_volume.specs.{Directories.{Roles.roled_from, Volumes.volume_of}, Encodings.Notes.note_at};
 ghost use Rattle.ffs_volume.specs.Costs.DirectoryReads.{noted_directory_cost};
-ghost use Rattle.ffs_workspace.specs.{Found.{WithClaims, WithSurvey}, Holds.HoldsSurvey, Ready.CanRead};
+ghost use Rattle.ffs_workspace.specs.{Found.{WithBlockCheck, WithSurvey}, Holds.HoldsSurvey, Ready.CanRead};
 ghost use Rattle.ffs_workspace.specs.Tables.{CanReadInode, TableAfter};
 ghost use Rattle.ffs_names.specs.Noting.{chunk_noting, is_child_of, BeginsNotes, CanNote, CanNoteChunks};
 ghost use Rattle.ffs_names.specs.Noting.{CanNoteDirectory, HoldsPlaces, NotingDirectoryLeaves, NotingChunksLeaves};
@@ -175,7 +175,7 @@ fn note_directory<I: Image>(
 ) -> Result<(), ImageFault>
     requires { CanNoteDirectory geometry.now.layout (I.device image.old) workspace.old dir }
     ensures notes { ForBytes
-        (WithClaims geometry.now.layout (I.device image.old) workspace.old)
+        (WithBlockCheck geometry.now.layout (I.device image.old) workspace.old)
         (λ bytes. is_dir (volume_of geometry.now.layout bytes) dir ≡ true
         → NotesDirectory geometry.now.layout bytes dir
         (work_moment I.Image image.old workspace.old)

@@ -3,7 +3,7 @@
 ghost use Rattle.std.specs.Prelude.{◌≡◌, false, true, OnOk};
 ghost use Rattle.ffs_workspace.specs.Moments.{work_moment};
 ghost use Rattle.ffs_image.specs.Known.{ForBytes};
-ghost use Rattle.ffs_workspace.specs.{Found.WithClaims, Ready.{CanRead, IsReady}};
+ghost use Rattle.ffs_workspace.specs.{Found.WithBlockCheck, Ready.{CanRead, IsReady}};
 ghost use Rattle.ffs_names.specs.{Costs.SweepsOnce, Surveys.{IsSurveyed, SurveyLeaves, SurveysAll}};
 ghost use Rattle.ffs_names.specs.{Surveys.SurveysNoMore, CalmDirs.FlagsEachCalm};
 
@@ -26,7 +26,7 @@ fn survey_unlimited<I: Image>(
     requires ready { CanRead geometry.now.layout (I.device image.old) workspace.old }
     requires first { workspace.old.surveyed ≡ false }
     ensures survey { ForBytes
-        (WithClaims geometry.now.layout (I.device image.old) workspace.old)
+        (WithBlockCheck geometry.now.layout (I.device image.old) workspace.old)
         (λ bytes. SurveysAll geometry.now.layout bytes
         (work_moment I.Image image.old workspace.old)
         (work_moment I.Image image.new workspace.new) result) }
@@ -83,13 +83,13 @@ pub fn survey<I: Image>(
 ) -> Result<(), ImageFault>
     requires { IsReady geometry.now.layout (I.device image.old) workspace.old }
     ensures survey { OnOk result (ForBytes
-        (WithClaims geometry.now.layout (I.device image.old) workspace.old)
+        (WithBlockCheck geometry.now.layout (I.device image.old) workspace.old)
         (λ bytes. IsSurveyed geometry.now.layout bytes workspace.new)) }
     ensures flags { workspace.old.surveyed ≡ false → OnOk result (ForBytes
-        (WithClaims geometry.now.layout (I.device image.old) workspace.old)
+        (WithBlockCheck geometry.now.layout (I.device image.old) workspace.old)
         (λ bytes. FlagsEachCalm geometry.now.layout bytes workspace.new)) }
     ensures reads { SweepsOnce geometry.now.layout
-        (WithClaims geometry.now.layout (I.device image.old) workspace.old)
+        (WithBlockCheck geometry.now.layout (I.device image.old) workspace.old)
         (I.reads image.old) (I.reads image.new) }
     ensures again { workspace.old.surveyed ≡ true → SurveysNoMore (I.reads image.old)
         (I.reads image.new) workspace.old workspace.new }

@@ -9,7 +9,7 @@ use Rattle.ffs_volume.specs.Report.Whole.{phase2_messages}
 use Rattle.ffs_report.specs.{Progress.{Progress, Said}, declared.fault.RunFault.RunFault}
 use Rattle.ffs_image.specs.Known.{ForBytes}
 use Rattle.ffs_report.specs.declared.fault.RunFault.TheVariants.{Read, Out}
-use Rattle.ffs_workspace.specs.{declared.workspace.Workspace.Workspace, Found.WithClaims}
+use Rattle.ffs_workspace.specs.{declared.workspace.Workspace.Workspace, Found.WithBlockCheck}
 use Rattle.ffs_workspace.specs.Holds.{HoldsBlockCheck, HoldsFindings}
 use Rattle.ffs_pathnames.specs.{RootAnswers.SaidStop, declared.pass2.Root.{Root, TheVariants.{Go, Stop}}}
 
@@ -22,14 +22,14 @@ use Rattle.ffs_pathnames.specs.{RootAnswers.SaidStop, declared.pass2.Root.{Root,
 -- Where the output failed: what the block check found is held still
 abbrev pub Phase2Ends : Layout → Device → (w w' : Workspace) → (old new : Progress) → Result Root RunFault →
     Type 0
-Phase2Ends v d w w' old new (Ok Go) = ForBytes (WithClaims v d w) (λ bytes.
+Phase2Ends v d w w' old new (Ok Go) = ForBytes (WithBlockCheck v d w) (λ bytes.
     (continues_after_root (volume_of v bytes) ≡ true) × HoldsFindings v bytes w')
-Phase2Ends v d w w' old new (Ok Stop) = ForBytes (WithClaims v d w) (λ bytes.
+Phase2Ends v d w w' old new (Ok Stop) = ForBytes (WithBlockCheck v d w) (λ bytes.
     (continues_after_root (volume_of v bytes) ≡ false) × HoldsFindings v bytes w')
-    × SaidStop (WithClaims v d w) (phase2 ∷ []) (phase2_messages v) old new
+    × SaidStop (WithBlockCheck v d w) (phase2 ∷ []) (phase2_messages v) old new
 Phase2Ends v d w w' old new (Err (Read fault)) = Said old new (phase2 ∷ [])
-    ⊎ ForBytes (WithClaims v d w) (λ bytes. continues_after_root (volume_of v bytes) ≡ true)
-Phase2Ends v d w w' old new (Err (Out fault)) = ForBytes (WithClaims v d w) (λ bytes. HoldsBlockCheck v bytes w')
+    ⊎ ForBytes (WithBlockCheck v d w) (λ bytes. continues_after_root (volume_of v bytes) ≡ true)
+Phase2Ends v d w w' old new (Err (Out fault)) = ForBytes (WithBlockCheck v d w) (λ bytes. HoldsBlockCheck v bytes w')
 
 -- Known bytes, of which the workspace holds what the block check found, are read at most `pathname_reads` times.
 -- What a volume holds counts, too: its directories are read for the survey, for the places of parent entries, and
@@ -38,13 +38,13 @@ Phase2Ends v d w w' old new (Err (Out fault)) = ForBytes (WithClaims v d w) (λ 
 -- for the survey alone. Where a survey was made before, none is made again. Where the check stops after the root,
 -- the survey alone reads
 pub record Phase2Reads (v : Layout) (d : Device) (w : Workspace) (before after : ℕ) : Type 0 where
-  pub known : ForBytes (WithClaims v d w) (λ bytes.
+  pub known : ForBytes (WithBlockCheck v d w) (λ bytes.
       after ≤ before + pathname_reads v (length (pathname_lines (volume_of v bytes))))
-  pub directories : ForBytes (WithClaims v d w) (λ bytes.
+  pub directories : ForBytes (WithBlockCheck v d w) (λ bytes.
       after ≤ before + (4 * directories_cost v bytes + line_reads * length (pathname_lines (volume_of v bytes))))
-  pub looked_at : w.surveyed ≡ false → ForBytes (WithClaims v d w) (λ bytes.
+  pub looked_at : w.surveyed ≡ false → ForBytes (WithBlockCheck v d w) (λ bytes.
       after ≤ before + (phase2_cost v bytes + line_reads * length (pathname_lines (volume_of v bytes))))
-  pub surveyed_before : w.surveyed ≡ true → ForBytes (WithClaims v d w) (λ bytes.
+  pub surveyed_before : w.surveyed ≡ true → ForBytes (WithBlockCheck v d w) (λ bytes.
       after ≤ before + (3 * directories_cost v bytes + line_reads * length (pathname_lines (volume_of v bytes))))
-  pub stopped : ForBytes (WithClaims v d w) (λ bytes. continues_after_root (volume_of v bytes) ≡ false
+  pub stopped : ForBytes (WithBlockCheck v d w) (λ bytes. continues_after_root (volume_of v bytes) ≡ false
       → after ≤ before + noted_directories_cost v bytes)

@@ -7,7 +7,7 @@ ghost use Rattle.ffs_report.specs.Progress.{progress};
 ghost use Rattle.ffs_volume.specs.Directories.{PathnameCheck.pathname_lines, Volumes.volume_of};
 ghost use Rattle.ffs_volume.specs.{Encodings.Kinds.is_dir_kind, Messages.Kinds.of_tree, Report.Reads.{line_reads, sweep_reads}};
 ghost use Rattle.ffs_volume.specs.Report.Whole.{phase2_messages};
-ghost use Rattle.ffs_workspace.specs.{Found.WithClaims, Holds.{HoldsBlockCheck, bool_at}, Leaves.LeavesBlockCheck, Ready.{CanRead, IsReady}};
+ghost use Rattle.ffs_workspace.specs.{Found.WithBlockCheck, Holds.{HoldsBlockCheck, bool_at}, Leaves.LeavesBlockCheck, Ready.{CanRead, IsReady}};
 ghost use Rattle.ffs_pathnames.specs.{Before.{root_reported, IsBefore, IsNonePassed}, Gathers.HasInodeLists};
 ghost use Rattle.ffs_pathnames.specs.{Phase2.{Phase2Ends, Phase2Reads}, RootAnswers.{AnswersRoot, SaidStop, is_go}};
 ghost use Rattle.ffs_pathnames.specs.{DirectoryLines.ReportsTree, Moments.lines_moment, SaysTreeMessages.SaysTreeMessages};
@@ -65,7 +65,7 @@ pub fn phase2<I: Image, W: Output>(
     requires ready { IsReady geometry.now.layout (I.device image.old) workspace.old }
     ensures faults { ImageAfter (I.device image.old) (I.device image.new) result }
     ensures text { PhaseReports
-        (WithClaims geometry.now.layout (I.device image.old) workspace.old)
+        (WithBlockCheck geometry.now.layout (I.device image.old) workspace.old)
         (phase2_messages geometry.now.layout) (progress W.sink report.old)
         (progress W.sink report.new) result }
     ensures heading { HeadingFirst messages.phase2 (progress W.sink report.old)
@@ -87,13 +87,13 @@ pub fn phase2<I: Image, W: Output>(
     // made then, unless nothing but the heading was begun before a fault. One that was made before
     // counts as made in any case.
     ensures surveyed { workspace.new.surveyed ≡ false → (workspace.old.surveyed ≡ false) × ForBytes
-        (WithClaims geometry.now.layout (I.device image.old) workspace.old)
+        (WithBlockCheck geometry.now.layout (I.device image.old) workspace.old)
         (λ bytes. IsErr result × SaysBeforeFault (messages.phase2 ∷ [])
         (progress W.sink report.old) (progress W.sink report.new) result) }
 
     // Where a read or a write failed, and the survey is made, what is to be held is held still.
     ensures again { OnErr result (workspace.new.surveyed ≡ true → ForBytes
-        (WithClaims geometry.now.layout (I.device image.old) workspace.old)
+        (WithBlockCheck geometry.now.layout (I.device image.old) workspace.old)
         (λ bytes. HoldsBlockCheck geometry.now.layout bytes workspace.new)) }
     ensures ready { IsReady geometry.now.layout (I.device image.new) workspace.new }
 {

@@ -7,7 +7,7 @@ ghost use Rattle.ffs_volume.specs.Directories.{Entries.entries_of, Roles.{is_dir
 ghost use Rattle.ffs_volume.specs.{Directories.Volumes.volume_of, Encodings.Places.entries_in_chunks};
 ghost use Rattle.ffs_volume.specs.{declared.constants.TheConstants.DIRBLKSIZ, Costs.DirectoryReads.directory_cost};
 ghost use Rattle.ffs_layout.specs.Entry.{entry_value};
-ghost use Rattle.ffs_workspace.specs.Found.{WithClaims};
+ghost use Rattle.ffs_workspace.specs.Found.{WithBlockCheck};
 ghost use Rattle.ffs_paths.specs.{Climbing.{FindsFirstName, FindsName, FindsNoted, IsNameIn}, NameTexts.name_bytes};
 ghost use Rattle.ffs_paths.specs.Reads.{AsksForPlace, ForTree, CanReadFor, OnlyReads, ReadsName, ReadsPlace};
 
@@ -123,7 +123,8 @@ pub fn search_name<I: Image>(
         (λ g. IsNameIn g dir parent (name_bytes name.new))) }
     ensures reads { OnlyReads geometry.now.layout (I.device image.old) (I.device image.new)
         workspace.old workspace.new result }
-    ensures counted { ForBytes (WithClaims geometry.now.layout (I.device image.old) workspace.old)
+    ensures counted { ForBytes
+        (WithBlockCheck geometry.now.layout (I.device image.old) workspace.old)
         (λ b. is_dir (volume_of geometry.now.layout b) parent ≡ true
         → I.reads image.new ≤ I.reads image.old + directory_cost geometry.now.layout b parent) }
 {
@@ -167,7 +168,8 @@ pub fn find_name<I: Image>(
     ensures leaves { ReadsName geometry.now.layout dir
         (work_moment I.Image image.old workspace.old) (work_moment I.Image image.new workspace.new)
         result }
-    ensures counted { ForBytes (WithClaims geometry.now.layout (I.device image.old) workspace.old)
+    ensures counted { ForBytes
+        (WithBlockCheck geometry.now.layout (I.device image.old) workspace.old)
         (λ b. is_dir (volume_of geometry.now.layout b) parent ≡ true
         → I.reads image.new
         ≤ I.reads image.old + (1 + directory_cost geometry.now.layout b parent)) }

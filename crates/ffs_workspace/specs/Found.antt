@@ -15,13 +15,13 @@ abbrev pub WithPhase1 : Layout → Device → Workspace → List ℕ → Type 0
 WithPhase1 v d w bytes = (d.contents ≡ Some bytes) × HoldsPhase1 v bytes w
 
 -- it holds what the block check found
-abbrev pub WithClaims : Layout → Device → Workspace → List ℕ → Type 0
-WithClaims v d w bytes = (d.contents ≡ Some bytes) × HoldsBlockCheck v bytes w
+abbrev pub WithBlockCheck : Layout → Device → Workspace → List ℕ → Type 0
+WithBlockCheck v d w bytes = (d.contents ≡ Some bytes) × HoldsBlockCheck v bytes w
 
--- it holds what the block check and the survey found
+-- it holds what the block check found, and the tree and the places that the survey did: phase 3 asks no counts
 abbrev pub WithSurvey : Layout → Device → Workspace → List ℕ → Type 0
 WithSurvey v d w bytes = (d.contents ≡ Some bytes) × HoldsBlockCheck v bytes w × HoldsSurvey v bytes w
 
--- it holds what the check of reference counts goes by
+-- it holds all of that and the counts of references, by which phase 4 goes
 abbrev pub WithFindings : Layout → Device → Workspace → List ℕ → Type 0
 WithFindings v d w bytes = (d.contents ≡ Some bytes) × HoldsFindings v bytes w

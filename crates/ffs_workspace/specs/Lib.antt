@@ -12,8 +12,8 @@
 -- only the windows have changed, and that CanRead holds. IsNew is of a workspace as it is made (`Workspace::new`,
 -- `Workspace::in_memory`). `Leaves` says what the phases after the block check, and after the survey, leave of it as
 -- it was. `Found` says of HoldsPhase1 and its like that the image gives the bytes, too: WithFresh, WithPhase1,
--- WithClaims, WithSurvey and WithFindings are known when a phase begins. `Moments` has an image and a workspace at a
--- time.
+-- WithBlockCheck, WithSurvey and WithFindings are known when a phase begins. `Moments` has an image and a workspace
+-- at a time.
 pub mod Tables
 pub mod Lengths
 pub mod Holds

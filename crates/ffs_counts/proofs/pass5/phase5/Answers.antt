@@ -5,7 +5,7 @@ use Rattle.ffs_groups.specs.{Check.lines_of, Inodes.class_in}
 use Rattle.ffs_report.proofs.Reporting.{of_says, of_stops, of_reads, says_heading}
 use Rattle.ffs_image.specs.Known.{ForBytes}
 use Rattle.ffs_report.proofs.Reporting.{heading_alone, heading_then, stops_heading}
-use Rattle.ffs_workspace.specs.Found.{WithClaims}
+use Rattle.ffs_workspace.specs.Found.{WithBlockCheck}
 use Rattle.ffs_counts.{specs.Once.{reported_of, reported_after}, proofs.GroupText.{counts_held, free_of, groups_begin}}
 use Rattle.ffs_counts.proofs.GroupText.{groups_go_on, groups_end, lines_after, totals_next, totals_right, up_next}
 use Rattle.ffs_counts.proofs.{GroupReads.{reads_next, records_next}, Holding.held_on}
@@ -16,7 +16,7 @@ use Rattle.ffs_counts.proofs.pass5.phase5.Goals as goal
 -- the lines of a group, and of those after it, where messages are said
 gone_on : (g : given.Over) (c : In_ok-found g) (once' : AlreadyReported) →
     once' ≡ reported_after (reported_of c.loop-group.once) (lines_of c.in_ok-found.found c.loop-group.group) →
-    ForBytes (WithClaims c.args.superblock.now.geometry.layout (g.I.Image.device c.args.image.now) c.args.workspace.now)
+    ForBytes (WithBlockCheck c.args.superblock.now.geometry.layout (g.I.Image.device c.args.image.now) c.args.workspace.now)
     (λ bytes. lines_after c.args.superblock.now.geometry.layout c.args.superblock.now.cstotal c.args.workspace.now
     (reported_of c.loop-group.once) c.loop-group.group bytes
     ≡ map of_blocks (reported_once (reported_of c.loop-group.once) (lines_of c.in_ok-found.found c.loop-group.group))
@@ -31,7 +31,7 @@ gone_on g c once' noted bytes k =
 
 -- the lines after the last group
 ended : (g : given.Over) (c : After-agree_with-right g) →
-    ForBytes (WithClaims c.args.superblock.now.geometry.layout (g.I.Image.device c.args.image.now) c.args.workspace.now)
+    ForBytes (WithBlockCheck c.args.superblock.now.geometry.layout (g.I.Image.device c.args.image.now) c.args.workspace.now)
     (λ bytes. lines_after c.args.superblock.now.geometry.layout c.args.superblock.now.cstotal c.args.workspace.now
     (reported_of c.loop-group.once) c.loop-group.group bytes
     ≡ map of_blocks (reported_once (reported_of c.loop-group.once) (unless c.agree_with-right.result FreeCounts)) ++ [])

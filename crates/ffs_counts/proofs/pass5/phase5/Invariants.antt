@@ -4,7 +4,7 @@ use Rattle.ffs_volume.specs.Report.Reads.{records_at_once}
 use Rattle.ffs_layout.specs.Super.{superblock_in}
 use Rattle.ffs_report.specs.{PhaseOutcome.{HeadingFirst, SaidOf}, Progress.progress}
 use Rattle.ffs_groups.specs.Inodes.{class_in}
-use Rattle.ffs_workspace.specs.{Found.WithClaims, Ready.KeepsWindows}
+use Rattle.ffs_workspace.specs.{Found.WithBlockCheck, Ready.KeepsWindows}
 use Rattle.ffs_counts.{specs.{Once.reported_of, Totals.{AreUpTo, AreTotals}}, proofs.GroupText.{free_of, lines_after}}
 use Rattle.ffs_counts.{specs.Records.IsAtRecords, proofs.GroupReads.reads_below}
 use Rattle.ffs_counts.proofs.pass5.phase5.Given as goal
@@ -20,7 +20,7 @@ invariant-loop-group g l =
       records : (l.group % records_at_once ≡ 0 → ⊥) → IsAtRecords v l.workspace.windows.table.window l.group;
       up : AreUpTo l.group l.totals;
       totals : AreTotals v (free_of v w) (class_in w.kinds.items) l.group l.totals;
-      said : SaidOf (WithClaims v (g.I.Image.device l.fn.image) w)
+      said : SaidOf (WithBlockCheck v (g.I.Image.device l.fn.image) w)
           (lines_after v l.superblock.cstotal w (reported_of l.once) l.group)
           (λ bytes. phase5_messages bytes (superblock_in l.superblock))
           (progress g.W.Output.sink l.fn.report) (progress g.W.Output.sink l.report);

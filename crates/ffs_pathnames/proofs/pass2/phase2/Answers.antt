@@ -15,7 +15,7 @@ use Rattle.ffs_pathnames.{specs.RootAnswers.{SaidStop, is_go}, proofs.Carrying.{
 use Rattle.ffs_pathnames.proofs.{SilentLaws.calm_silent, pass2.phase2.{Given.Over, Goals.After-check_tree}}
 use Rattle.ffs_pathnames.proofs.ChecksNeededLaws.{looked_at_first}
 use Rattle.ffs_names.{proofs.{DirCosts.noted_all_within, RunSums.costs_bounded}, specs.Surveys.SurveysNoMore}
-use Rattle.ffs_workspace.specs.{declared.workspace.Workspace.Workspace, Found.WithClaims, Holds.HoldsBlockCheck}
+use Rattle.ffs_workspace.specs.{declared.workspace.Workspace.Workspace, Found.WithBlockCheck, Holds.HoldsBlockCheck}
 use Rattle.ffs_workspace.{specs.Holds.{HoldsFindings, HoldsReferences, HoldsSurvey}, proofs.Leaving.block_check_kept}
 use Rattle.ffs_workspace.proofs.Leaving.{block_check_more, claims_left, findings_claims}
 use Rattle.ffs_volume.proofs.Results.{at_error}
@@ -23,7 +23,7 @@ use Rattle.ffs_pathnames.proofs.pass2.phase2.Goals as goal
 
 -- what is known before the first directory
 before_tree : (g : Over) (c : After-check_tree g) (b : List ℕ) →
-    WithClaims c.args.geometry.now.layout (g.I.Image.device c.args.image.now) c.args.workspace.now b →
+    WithBlockCheck c.args.geometry.now.layout (g.I.Image.device c.args.image.now) c.args.workspace.now b →
     IsBefore c.args.geometry.now.layout (g.I.Image.device c.survey.new.image).contents
     c.clear_passed_and_windows.new.workspace 2 b
 before_tree g c b k =
@@ -38,7 +38,7 @@ before_tree g c b k =
 
 -- and what of it is held after the last one
 claims_after : (g : Over) (c : After-check_tree g) (b : List ℕ) →
-    WithClaims c.args.geometry.now.layout (g.I.Image.device c.args.image.now) c.args.workspace.now b →
+    WithBlockCheck c.args.geometry.now.layout (g.I.Image.device c.args.image.now) c.args.workspace.now b →
     HoldsBlockCheck c.args.geometry.now.layout b c.check_tree.new.workspace
 claims_after g c b k =
     let v = c.args.geometry.now.layout in
@@ -48,20 +48,20 @@ claims_after g c b k =
 
 -- the phase ends as the check of the tree does
 ends_by : (v : Layout) (d d' : Device) (old w new : Workspace) (before after : Progress) (r : Result Root RunFault) →
-    ForBytes (WithClaims v d old) (IsBefore v d'.contents w 2) →
-    ForBytes (WithClaims v d old) (λ b. HoldsReferences v b new) →
-    ForBytes (WithClaims v d old) (λ b. HoldsBlockCheck v b new) → AnswersRoot v d' w r →
+    ForBytes (WithBlockCheck v d old) (IsBefore v d'.contents w 2) →
+    ForBytes (WithBlockCheck v d old) (λ b. HoldsReferences v b new) →
+    ForBytes (WithBlockCheck v d old) (λ b. HoldsBlockCheck v b new) → AnswersRoot v d' w r →
     OnOk r (ForBytes (IsBefore v d'.contents w 2) (λ b. HoldsBlockCheck v b new × HoldsSurvey v b new)) →
-    IfOk r (λ root. is_go root ≡ false → SaidStop (WithClaims v d old) (phase2 ∷ [])
+    IfOk r (λ root. is_go root ≡ false → SaidStop (WithBlockCheck v d old) (phase2 ∷ [])
     (λ b. phase2 ∷ map of_tree (pathname_lines (volume_of v b))) before after) → Phase2Ends v d old new before after r
 ends_by v d d' old w new before after (Ok root) more references claims answer holds stop = ends root answer stop
   where
-    found : ForBytes (WithClaims v d old) (λ b. HoldsFindings v b new)
+    found : ForBytes (WithBlockCheck v d old) (λ b. HoldsFindings v b new)
     found b k =
         let left = holds b (more b k) in
         record { claims = left.0; survey = left.1; references = references b k }
 
-    ends : (root : Root) → AnswersRoot v d' w (Ok root) → (is_go root ≡ false → SaidStop (WithClaims v d old)
+    ends : (root : Root) → AnswersRoot v d' w (Ok root) → (is_go root ≡ false → SaidStop (WithBlockCheck v d old)
         (phase2 ∷ []) (λ b. phase2 ∷ map of_tree (pathname_lines (volume_of v b))) before after) →
         Phase2Ends v d old new before after (Ok root)
     ends Go answer stop = λ b k. (sym (answer b (more b k)), found b k)
@@ -72,10 +72,10 @@ ends_by v d d' old w new before after (Err (Out fault)) more references claims a
 
 -- after the heading the root's message is said
 stop_after : (v : Layout) (d d' : Device) (old w : Workspace) (a b c : Progress) (r : Result Root RunFault) →
-    ForBytes (WithClaims v d old) (IsBefore v d'.contents w 2) → Said a b (phase2 ∷ []) →
+    ForBytes (WithBlockCheck v d old) (IsBefore v d'.contents w 2) → Said a b (phase2 ∷ []) →
     IfOk r (λ root. is_go root ≡ false → SaidStop (IsBefore v d'.contents w 2) []
     (λ b. map of_tree (pathname_lines (volume_of v b))) b c) →
-    IfOk r (λ root. is_go root ≡ false → SaidStop (WithClaims v d old) (phase2 ∷ [])
+    IfOk r (λ root. is_go root ≡ false → SaidStop (WithBlockCheck v d old) (phase2 ∷ [])
     (λ b. phase2 ∷ map of_tree (pathname_lines (volume_of v b))) a c)
 stop_after v d d' old w a b c (Ok root) more heading stop = λ ends.
     let one = stop ends in

@@ -8,7 +8,7 @@ use Rattle.ffs_paths.proofs.{Climbed.{climb_more, few_more, few_then, noted_here
 use Rattle.ffs_paths.proofs.{Keeping.tree_on, WaysUp.{parent_is, way_root, way_cut, way_long, way_up, count_is}}
 use Rattle.ffs_paths.specs.Reads.{OnlyReads}
 use Rattle.ffs_image.specs.Device.{Device}
-use Rattle.ffs_workspace.{proofs.Leaving.claims_held, specs.Found.{WithClaims, WithSurvey}}
+use Rattle.ffs_workspace.{proofs.Leaving.claims_held, specs.Found.{WithBlockCheck, WithSurvey}}
 use Rattle.ffs_workspace.specs.declared.workspace.Workspace.{Workspace}
 use Rattle.ffs_paths.proofs.path.climb.Goals as goal
 
@@ -22,7 +22,7 @@ step_more left step k e some = omega (arith, e, some)
 
 -- what the block check found is held after reads, too
 read_before : {T : Type 0} {v : Layout} {d d' : Device} {w w' : Workspace} {x : T} {b : List ℕ} →
-    OnlyReads v d d' w w' (Ok x) → WithSurvey v d w b → WithClaims v d' w' b
+    OnlyReads v d d' w w' (Ok x) → WithSurvey v d w b → WithBlockCheck v d' w' b
 read_before {v = v} {b = b} r k = (ap (λ d. d.contents) r.read ∙ k.0, claims_held v b _ _ r.lists k.1)
 
 pub returns-then-at-eq-ROOTINO-clause-path : goal.returns-then-at-eq-ROOTINO-clause-path
