@@ -140,19 +140,28 @@ abbrev pub FlushedAfter : {S : Type 0} → (S → Result (Unit {0}) Error → S 
 FlushedAfter was_flushed contents old new ran_status status =
     IsUnprinted old new ran_status status ⊎ IsFlushed was_flushed contents old new ran_status status
 
+-- what a run is given: how images are opened, and what contracts see of its writer and of its standard error
+pub record Surroundings (O S E : Type 0) : Type 1 where
+  pub images : Images O
+  pub outlet : outlet_trait.Ghosts S
+  pub errors : outlet_trait.Ghosts E
+
+abbrev pub surroundings : {O S E : Type 0} → Images O → outlet_trait.Ghosts S → outlet_trait.Ghosts E →
+    Surroundings O S E
+surroundings images outlet errors = record { images = images; outlet = outlet; errors = errors }
+
 -- how a run of a program ends whose writer is flushed after it: `out` and `out'` are the writer as an output, before
 -- the run and after it, and `between` is the writer before the flush. The output failed only where a write did
-pub record RunsProgramFlushed {R O S E : Type 0} (program : Meaning R) (images : Images O)
-    (outlet : outlet_trait.Ghosts S) (errors_outlet : outlet_trait.Ghosts E) (words : List (List ℕ))
-    (old new : RunMoment O S E) (status : ℕ) : Type 0 where
+pub record RunsProgramFlushed {R O S E : Type 0} (program : Meaning R) (given : Surroundings O S E)
+    (words : List (List ℕ)) (old new : RunMoment O S E) (status : ℕ) : Type 0 where
   pub out : Sink
   pub out' : Sink
   pub between : S
-  pub before : out.taken ≡ outlet.contents old.out
+  pub before : out.taken ≡ given.outlet.contents old.out
   pub unfailed : out.failures ≡ 0
-  pub after : out'.taken ≡ outlet.contents between
-  pub caused : ∥ IsCaused outlet.was_written out'.failures ∥₁
+  pub after : out'.taken ≡ given.outlet.contents between
+  pub caused : ∥ IsCaused given.outlet.was_written out'.failures ∥₁
   pub ran_status : ℕ
-  pub ran : RunsProgram program images errors_outlet words (run_moment old.opener out old.errors)
+  pub ran : RunsProgram program given.images given.errors words (run_moment old.opener out old.errors)
       (run_moment new.opener out' new.errors) ran_status
-  pub flushed : FlushedAfter outlet.was_flushed outlet.contents between new.out ran_status status
+  pub flushed : FlushedAfter given.outlet.was_flushed given.outlet.contents between new.out ran_status status

@@ -1,7 +1,7 @@
 //! The program `ffs_find`: it finds something in the image that its words name. `start` of
 //! `ffs_check` adds the standard streams.
 ghost use Rattle.std.specs.Prelude.{map};
-ghost use Rattle.ffs_check.specs.Run.{RunsProgramFlushed, images_of, run_moment};
+ghost use Rattle.ffs_check.specs.Run.{RunsProgramFlushed, images_of, run_moment, surroundings};
 ghost use Rattle.ffs_finding.specs.Run.{ffs_find};
 
 use crate::find::find_in;
@@ -65,7 +65,7 @@ pub fn run<Y: System, S: Outlet, E: Outlet>(
     errors: &mut E,
 ) -> u8
     ensures { RunsProgramFlushed ffs_find
-        (images_of ⟦<RawImage<Y::File> as Image>⟧ ⟦<Y as Opener>⟧) S.Outlet E.Outlet
+        (surroundings (images_of ⟦<RawImage<Y::File> as Image>⟧ ⟦<Y as Opener>⟧) S.Outlet E.Outlet)
         (map (λ word. word.now) words.now) (run_moment system.old out.old errors.old)
         (run_moment system.new out.new errors.new) result }
 {
