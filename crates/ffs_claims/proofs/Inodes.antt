@@ -1,5 +1,5 @@
 -- How an inode's part of the block check continues, and how many Runs it is seen to have.
-use Rattle.std.proofs.Common.{◌+◌, ◌<◌, ◌^◌, false, arith, OnOk, ◌≡◌, ℕ}
+use Rattle.std.proofs.Common.{◌+◌, ◌<◌, false, arith, OnOk, ◌≡◌, ℕ}
 use Rattle.std.proofs.Common.{List, [], ◌∷◌, ◌++◌, append-nil, Option, Result, Ok}
 use Rattle.std.proofs.{Common.{refl, ◌≤◌, true}, lemmas.Bool.Decides.nat_tests}
 use Rattle.std.proofs.lemmas.List.Sums.{count_by-le-length}
@@ -20,6 +20,7 @@ use Rattle.ffs_layout.specs.declared.geometry.Geometry.{Geometry}
 use Rattle.ffs_walk.specs.{Windows.KeepsBlocks, declared.blocks.Blocks.Blocks}
 use Rattle.ffs_claims.proofs.{Frames.{found_none, ready_walked, stay_then}, StepsContinue.lines_append}
 use Rattle.ffs_claims.specs.{Area.IsDataArea, Claiming.{CanClaim, ClaimsInArea, FewRuns, StepsLeave, CanSeeNext}}
+use Rattle.ffs_claims.specs.Bounds.{inode_bound, step_bound}
 use Rattle.ffs_claims.specs.{Leaves.HasBegun, Lines.{of_lines, owner_with, counted_owner}}
 use Rattle.ffs_claims.specs.declared.area.DataArea.{DataArea}
 use Rattle.ffs_maps.proofs.Bits.{bits_long}
@@ -62,7 +63,7 @@ seen_bound u {w = w} made free m = grind (arith, nat_tests, used_below)
 -- so there is room to count them
 pub sees_next : {v : Layout} {u w : Workspace} {area : DataArea} → IsAcceptedLayout v → HasBegun u → IsFor v w →
     IsDataArea v area → is_open (claims_of w) ≡ true → ClaimBound (claims_of u) (claims_of w) →
-    CanSeeNext v w area (2 ^ 62)
+    CanSeeNext v w area step_bound
 sees_next {u = u} g begun made all_in_range uncut m = grind (arith, seen_bound)
 
 -- ---- where the claiming of its steps is, before it ends
@@ -137,7 +138,7 @@ pub stored_runs : (u : Workspace) {w : Workspace} →
 stored_runs u e = rw e (record { seen = refl; used = refl })
 
 pub begun : (u : Workspace) {w : Workspace} → w ≡ record u { bad = 0; dup_offers = 0; kept = 0; tail = false } →
-    u.runs_seen < 2 ^ 40 → HasBegun w
+    u.runs_seen < inode_bound → HasBegun w
 begun u e few = rw e (record { bad = refl; dup_offers = refl; kept = refl; runs = omega arith })
 
 -- a free inode has no steps

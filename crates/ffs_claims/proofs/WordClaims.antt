@@ -1,5 +1,5 @@
 -- What the words of an indirect block claim with nothing to report, one after the other.
-use Rattle.std.proofs.Common.{◌≡◌, ◌≢◌, ℕ, ◌+◌, ◌<◌, ◌≤◌, ◌^◌, true, false, nat_eq, nat_lt, List, ◌∷◌, arith}
+use Rattle.std.proofs.Common.{◌≡◌, ◌≢◌, ℕ, ◌+◌, ◌<◌, ◌≤◌, true, false, nat_eq, nat_lt, List, ◌∷◌, arith}
 use Rattle.std.proofs.{Common.{Option, refl, subst, sym, ◌∙◌}, lemmas.Bool.{and_parts, Decides.nat_tests}}
 use Rattle.ffs_volume.{proofs.Potentials.{cond_holds, moves_then, stays}, specs.Blocks.Claims.{after_step, is_open}}
 use Rattle.ffs_volume.specs.{Disk.Areas.is_run_in_range, Laws.{Geometry.IsAcceptedLayout, RunLengths.HasLength}}
@@ -11,6 +11,7 @@ use Rattle.ffs_walk.specs.{Rests.{most_steps_left, steps_left}, Windows.BlocksHo
 use Rattle.ffs_workspace.specs.{Holds.claims_of, Lengths.IsFor, declared.workspace.Workspace.Workspace}
 use Rattle.ffs_claims.proofs.{Frames.only_then, IndirectReads.{step_on, word_unseen}, UnclaimedRuns.whole_is}
 use Rattle.ffs_claims.proofs.Inodes.{moves_on, seen_bound}
+use Rattle.ffs_claims.specs.Bounds.{step_bound, address_bound}
 use Rattle.ffs_claims.specs.SilentAddresses.{ClaimsAddress, ClaimsSilently, ClaimsAddresses}
 use Rattle.ffs_claims.specs.{Claiming.CanSeeNext, declared.area.DataArea.DataArea}
 
@@ -67,7 +68,7 @@ words_then {a = a} {b = b} {c = c} p q = grind (arith, moves_then, only_then)
 
 -- there is still room to count what the next address offers
 pub sees_still : {v : Layout} {a b : Workspace} {area : DataArea} {x y : Walk} → IsAcceptedLayout v →
-    CanSeeNext v a area (2 ^ 62) → ClaimsAddresses v a b x y → CanSeeNext v b area (2 ^ 63)
+    CanSeeNext v a area step_bound → ClaimsAddresses v a b x y → CanSeeNext v b area address_bound
 sees_still {a = a} g can words = grind (arith, seen_bound)
 
 -- the layout of the walk's geometry is that of the volume

@@ -1,5 +1,5 @@
 -- What inodes ask for before they claim, and what they leave.
-use Rattle.std.specs.{List.range_with_len, Prelude.{◌≡◌, ℕ, ◌+◌, ◌<◌, ◌≤◌, ◌^◌, Bool, true, false, List}}
+use Rattle.std.specs.{List.range_with_len, Prelude.{◌≡◌, ℕ, ◌+◌, ◌<◌, ◌≤◌, Bool, true, false, List}}
 use Rattle.std.specs.Prelude.{Result, OnOk, IfOk}
 use Rattle.ffs_volume.specs.Blocks.{BlockCheck.owner_lines, Inodes.{class_of, inodes_of}, Owners.{Owner, owner_of}}
 use Rattle.ffs_volume.specs.Blocks.Claims.{Claims, after_offer, after_offers, after_owner, after_step, after_steps}
@@ -17,7 +17,7 @@ use Rattle.ffs_maps.specs.{Bits.bits_of, Reserved.with_reserved}
 use Rattle.ffs_walk.specs.Counts.{entered}
 use Rattle.ffs_workspace.specs.{Holds.{IsFresh, claims_of}, Lengths.IsFor, Ready.CanRead, Tables.HoldsInode}
 use Rattle.ffs_workspace.specs.{Tables.HoldsPiece, declared.workspace.Workspace.Workspace}
-use Rattle.ffs_claims.specs.{Area.IsDataArea}
+use Rattle.ffs_claims.specs.{Area.IsDataArea, Bounds.{inode_bound, step_bound}}
 use Rattle.ffs_claims.specs.Leaves.{CanOffer, ClaimsAndFinds, ClaimsOnly, HasBegun, OffersOnly, SameFound}
 use Rattle.ffs_claims.specs.{Lines.of_lines, Moments.{ClaimMoment, PhaseMoment}, declared.area.DataArea.DataArea}
 use Rattle.ffs_claims.specs.declared.{area.Run.Run, claim.Sweep.Sweep}
@@ -39,13 +39,12 @@ pub record CanClaim (v : Layout) (d : Device) (w : Workspace) (area : DataArea) 
   pub all_in_range : IsDataArea v area
 
 -- an inode can claim in a sweep: its number is one of the volume, the walk is over the volume, and the Runs
--- counted so far leave room for its own. Any bound far above `runs_limit`, and far below 2^64, serves for
--- the count
+-- counted so far leave room for its own
 pub record CanClaimInode (g : Geometry) (d : Device) (w : Workspace) (sweep : Sweep) (number : ℕ) : Type 0 where
   pub claim : CanClaim g.layout d w sweep.area
   pub walk : sweep.walk.geometry ≡ g
   pub number_fits : number < inodes_of g.layout
-  pub runs : w.runs_seen < 2 ^ 40
+  pub runs : w.runs_seen < inode_bound
 
 -- the steps of the current inode can claim: `class` is the inode's class, the walk is over the volume, and the
 -- inode has no bad Run, no dup offer and no kept offer yet
@@ -57,7 +56,7 @@ pub record CanClaimSteps (g : Geometry) (d : Device) (w : Workspace) (sweep : Sw
   pub begun : HasBegun w
 
 -- the next step of an inode can be seen: the inode isn't cut, and there is room to count its
--- fragments and Runs. Any bound far above `runs_limit`, and far below 2^64, serves as `most`
+-- fragments and Runs. `most` is one of `Bounds`
 pub record CanSeeNext (v : Layout) (w : Workspace) (area : DataArea) (most : ℕ) : Type 0 where
   pub made : IsFor v w
   pub all_in_range : IsDataArea v area
@@ -65,10 +64,9 @@ pub record CanSeeNext (v : Layout) (w : Workspace) (area : DataArea) (most : ℕ
   pub room : w.kept < most
   pub runs : w.runs_seen < most
 
--- this step can be seen as an inode's next one: it has as many fragments as a step can have. The bound is
--- above that of `HasBegun`, since steps before it have been counted
+-- this step can be seen as an inode's next one: it has as many fragments as a step can have
 pub record CanSeeStep (v : Layout) (w : Workspace) (area : DataArea) (step : Step) : Type 0 where
-  pub next : CanSeeNext v w area (2 ^ 62)
+  pub next : CanSeeNext v w area step_bound
   pub length : HasLength v.frag step
 
 -- the offers of a Run can be taken: the inode isn't cut, the count of kept offers has room for them,

@@ -1,26 +1,25 @@
 -- What calls need of a workspace, and what they leave of it as it was.
-use Rattle.std.specs.Prelude.{◌≡◌, ◌+◌, ◌<◌, ◌≤◌, ◌^◌, ◌||◌, ℕ, Bool, IsTrue, true, min, List, slice_set, vec_len}
+use Rattle.std.specs.Prelude.{◌≡◌, ◌+◌, ◌<◌, ◌≤◌, ◌||◌, ℕ, Bool, IsTrue, true, min, List, slice_set, vec_len}
 use Rattle.ffs_volume.specs.{Blocks.Inodes.is_unknown, Encodings.{Kinds.kind_of, Links.start_of, Replay.cut_of}}
 use Rattle.ffs_volume.specs.{declared.{Class.Class, Inode.Inode, Layout.Layout}, Encodings.Notes.note_of}
 use Rattle.ffs_volume.specs.Blocks.Claims.{has_blame, is_set}
 use Rattle.ffs_maps.specs.Bits.{bits_of}
 use Rattle.ffs_workspace.specs.{Holds.claims_of, Lengths.IsFor, declared.workspace.Workspace.Workspace}
+use Rattle.ffs_claims.specs.Bounds.{first_step_bound, address_bound}
 
 -- the current inode has no bad Run, no dup offer and no kept one yet, and there is room to count
--- its Runs: any bound far above `runs_limit`, and far below 2^64, serves. The bounds on this count
--- that the contracts of phase 1 ask for, from 2^40 to 2^63, grow from a call to those that it makes,
--- since some are counted in between
+-- its Runs
 pub record HasBegun (w : Workspace) : Type 0 where
   pub bad : w.bad ≡ 0
   pub dup_offers : w.dup_offers ≡ 0
   pub kept : w.kept ≡ 0
-  pub runs : w.runs_seen < 2 ^ 61
+  pub runs : w.runs_seen < first_step_bound
 
--- the workspace was made for the volume, its count of kept offers has room for so many more (any bound
--- below 2^64 serves), and where `known_in_range` says that these are in range, they are (`are_in_range`)
+-- the workspace was made for the volume, its count of kept offers has room for so many more, and where
+-- `known_in_range` says that these are in range, they are (`are_in_range`)
 pub record CanOffer (v : Layout) (w : Workspace) (more : ℕ) (known_in_range are_in_range : Bool) : Type 0 where
   pub made : IsFor v w
-  pub room : w.kept + more ≤ 2 ^ 63
+  pub room : w.kept + more ≤ address_bound
   pub known : IsTrue known_in_range → are_in_range ≡ true
 
 -- each flag that was set is set

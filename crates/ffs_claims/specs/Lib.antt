@@ -6,7 +6,7 @@
 --              `Reporting`), what stays; phase1b_messages_for, what a second call says
 --
 -- For both phases: `Moments` has the values that calls change, `Lines` the lines as messages of a report, `Leaves`
--- what calls need of a workspace and leave of it as it was.
+-- what calls need of a workspace and leave of it as it was, `Bounds` the bounds on counts there.
 --
 -- Phase 1, what inodes claim: `Area` is about fragments where each Run is in range. `Claiming` leads from an inode to
 -- its steps, a step and its offers: ClaimsOwner (of `claim_inode`), ClaimsSteps, ClaimsStep, TakesOffers, TakesOffer.
@@ -18,6 +18,7 @@
 -- (Rewalks).
 pub mod Moments
 pub mod Lines
+pub mod Bounds
 pub mod Leaves
 pub mod Area
 pub mod Claiming

@@ -1,5 +1,5 @@
 -- Runs that the words of an indirect block name in turn, and that are claimed together.
-use Rattle.std.specs.Prelude.{◌≡◌, ℕ, ◌+◌, ◌/◌, ◌%◌, ◌<◌, ◌≤◌, ◌^◌, true, length}
+use Rattle.std.specs.Prelude.{◌≡◌, ℕ, ◌+◌, ◌/◌, ◌%◌, ◌<◌, ◌≤◌, true, length}
 use Rattle.ffs_volume.specs.{Blocks.Claims.{Claims, is_open}, Disk.Areas.is_run_in_range}
 use Rattle.ffs_volume.specs.{declared.Layout.Layout}
 use Rattle.ffs_maps.specs.Bits.{AreClear, set_run}
@@ -7,6 +7,7 @@ use Rattle.ffs_walk.specs.{Counts.EntersOnly, HeldWords.{IsInHeldBlock, next_add
 use Rattle.ffs_walk.specs.{Rests.{SameFileBlocks, most_steps_left}, declared.blocks.Blocks.Blocks}
 use Rattle.ffs_walk.specs.declared.walk.Walk.{Walk}
 use Rattle.ffs_workspace.specs.declared.workspace.Workspace.{Workspace}
+use Rattle.ffs_claims.specs.Bounds.{address_bound}
 use Rattle.ffs_claims.specs.{Claiming.CanSeeNext, SilentAddresses.{ClaimsAddresses, MeansSame}, declared.area.DataArea.DataArea}
 
 -- a word is left of the single indirect block that a walk is in, and this is the address there
@@ -39,10 +40,10 @@ pub record PassesSeries (v : Layout) (blocks : Blocks) (start len : ℕ) (walk w
   pub same : SameFileBlocks walk walk'
   pub counted : EntersOnly walk walk' 0
 
--- what the next words of an indirect block offer can be claimed: the inode's next step can be seen, with the bound
--- of `CanClaimAddress`, the block is held, and a word is left
+-- what the next words of an indirect block offer can be claimed: the inode's next step can be seen, the block is
+-- held, and a word is left
 pub record CanClaimNext (w : Workspace) (area : DataArea) (walk : Walk) : Type 0 where
-  pub next : CanSeeNext walk.geometry.layout w area (2 ^ 63)
+  pub next : CanSeeNext walk.geometry.layout w area address_bound
   pub held : IsInHeldBlock w.windows.blocks walk
   pub left : walk.single.next < walk.single.used
 

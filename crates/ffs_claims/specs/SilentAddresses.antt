@@ -1,5 +1,5 @@
 -- What the words of an indirect block, and the direct addresses of an inode, claim with nothing to report.
-use Rattle.std.specs.Prelude.{◌≡◌, ℕ, ◌≤◌, ◌^◌, true, List, [], Option}
+use Rattle.std.specs.Prelude.{◌≡◌, ℕ, ◌≤◌, true, List, [], Option}
 use Rattle.ffs_volume.specs.Blocks.Claims.{Claims, after_step, after_steps, is_open, lines_of_steps, step_lines}
 use Rattle.ffs_volume.specs.{Laws.ClaimBounds.ClaimBound, Costs.VolumeReads.indirect_in_steps, declared.Layout.Layout}
 use Rattle.ffs_volume.specs.declared.Step.{Step}
@@ -7,6 +7,7 @@ use Rattle.ffs_image.specs.Device.{ForContents}
 use Rattle.ffs_walk.specs.{Counts.EntersOnly, HeldWords.word_step, Rests.{SameFileBlocks, most_steps_left, steps_left}}
 use Rattle.ffs_walk.specs.{Windows.BlocksHold, declared.{blocks.Blocks.Blocks, walk.Walk.Walk}}
 use Rattle.ffs_workspace.specs.{Holds.claims_of, declared.workspace.Workspace.Workspace}
+use Rattle.ffs_claims.specs.Bounds.{step_bound, address_bound}
 use Rattle.ffs_claims.specs.{Claiming.CanSeeNext, Leaves.ClaimsOnly, declared.area.DataArea.DataArea}
 use Rattle.ffs_claims.specs.declared.silent_addresses.RunCounts.{RunCounts}
 
@@ -14,21 +15,19 @@ use Rattle.ffs_claims.specs.declared.silent_addresses.RunCounts.{RunCounts}
 abbrev pub with_run_counts : Workspace → RunCounts → Workspace
 with_run_counts w counts = record w { runs_seen = counts.runs_seen; kept = counts.kept }
 
--- what the next addresses of a walk offer can be claimed: the inode's next step can be seen, with the bound of
--- `CanSeeStep`
+-- what the next addresses of a walk offer can be claimed: the inode's next step can be seen
 abbrev pub CanClaimAddresses : Workspace → DataArea → Walk → Type 0
-CanClaimAddresses w area walk = CanSeeNext walk.geometry.layout w area (2 ^ 62)
+CanClaimAddresses w area walk = CanSeeNext walk.geometry.layout w area step_bound
 
 -- a step claims what it offers, and nothing is reported of it
 pub record ClaimsSilently (v : Layout) (step : Step) (old new : Workspace) : Type 0 where
   pub claims : claims_of new ≡ after_step v (claims_of old) step
   pub silent : (number : ℕ) → step_lines v number (claims_of old) step ≡ []
 
--- what an address offers can be claimed: in a volume of some layout, the inode's next step can be seen. The bound is
--- above that of `CanClaimAddresses`, since addresses before this one have been counted
+-- what an address offers can be claimed: in a volume of some layout, the inode's next step can be seen
 pub record CanClaimAddress (w : Workspace) (area : DataArea) : Type 0 where
   pub layout : Layout
-  pub next : CanSeeNext layout w area (2 ^ 63)
+  pub next : CanSeeNext layout w area address_bound
 
 -- the step of an address of a block of data, which has so many fragments, claims what it offers,
 -- wherever in the file it is: nothing is reported of it, and the inode isn't cut by it

@@ -1,9 +1,10 @@
 //! The lines of phase 1.
 
-ghost use Rattle.std.specs.Prelude.{◌≡◌, ◌==◌, ◌&&◌, ◌<◌, ◌^◌, [], ◌∷◌, not};
+ghost use Rattle.std.specs.Prelude.{◌≡◌, ◌==◌, ◌&&◌, ◌<◌, [], ◌∷◌, not};
 ghost use Rattle.ffs_volume.specs.Blocks.{BlockCheck.{class_lines, count_lines}, Inodes.is_file_or_dir};
 ghost use Rattle.ffs_report.specs.Progress.{progress, Says};
 ghost use Rattle.ffs_workspace.specs.Holds.{claims_of};
+ghost use Rattle.ffs_claims.specs.Bounds.{sectors_bound};
 ghost use Rattle.ffs_claims.specs.Lines.{of_lines, counted_owner, dup_lines, bad_lines};
 ghost use Rattle.ffs_volume.specs.Blocks.Claims as claims;
 ghost use Rattle.ffs_volume.specs.declared.BlockMessage.TheVariants as lines;
@@ -124,8 +125,7 @@ pub fn say_count<W: Output>(
     found: u32,
     report: &mut Report<'_, W>,
 ) -> Result<(), OutFault>
-    // Any bound far above an inode's offers, and below 2^57, serves: the product must fit a u64.
-    requires { workspace.now.kept < 2 ^ 40 }
+    requires { workspace.now.kept < sectors_bound }
     ensures { Says (progress W.sink report.old) (progress W.sink report.new)
         (of_lines (count_lines geometry.now.layout (counted_owner number class found)
         (claims_of workspace.now))) result }

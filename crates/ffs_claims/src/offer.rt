@@ -1,9 +1,10 @@
 //! The offers of Runs, and what is reported of them.
 
-ghost use Rattle.std.specs.Prelude.{◌≡◌, ◌^◌, ℕ, IfOk, IsTrue, Option, false, true};
+ghost use Rattle.std.specs.Prelude.{◌≡◌, ℕ, IfOk, IsTrue, Option, false, true};
 ghost use Rattle.ffs_volume.specs.{Blocks.Claims.offer_lines, Disk.Areas.{is_fragment_in_range, is_run_in_range}};
 ghost use Rattle.ffs_report.specs.Progress.{progress, Says};
 ghost use Rattle.ffs_workspace.specs.Holds.{claims_of};
+ghost use Rattle.ffs_claims.specs.Bounds.{step_bound};
 ghost use Rattle.ffs_claims.specs.Claiming.{CanSeeNext, CanSeeStep, CanTakeOffers, ClaimsInArea, ClaimsStep};
 ghost use Rattle.ffs_claims.specs.{Claiming.{TakesOffer, TakesOffers}, Leaves.CanOffer, Moments.claim_moment};
 ghost use Rattle.ffs_claims.specs.Lines.{has_dup_line, of_lines};
@@ -176,8 +177,7 @@ fn take_run<W: Output>(
     run: Run,
     report: &mut Report<'_, W>,
 ) -> Result<bool, OutFault>
-    // The bound is that of `CanSeeStep`.
-    requires { CanSeeNext geometry.now.layout workspace.old area.old (2 ^ 62) }
+    requires { CanSeeNext geometry.now.layout workspace.old area.old step_bound }
     // Whichever block of the file the Run is, or an indirect block.
     ensures claims { (block : Option ℕ) → ClaimsStep geometry.now.layout number
         (steps.Run run.start run.len block) (claim_moment W.Output workspace.old report.old)

@@ -10,11 +10,12 @@
 //! which `pass_series` counts. Where a word isn't claimed, nothing has changed, and the caller
 //! takes it as a step. Below it `claim_direct` does the same for direct addresses, one by one.
 
-ghost use Rattle.std.specs.Prelude.{◌≡◌, ◌≢◌, ◌^◌, ◌<◌, false, IsTrue};
+ghost use Rattle.std.specs.Prelude.{◌≡◌, ◌≢◌, ◌<◌, false, IsTrue};
 ghost use Rattle.ffs_volume.specs.declared.Layout.{Layout};
 ghost use Rattle.ffs_walk.specs.{HeldWords.IsInHeldBlock, Windows.HasRoom, Rests.IsAtTop};
 ghost use Rattle.ffs_claims.specs.{Claiming.CanSeeNext, SilentAddresses.{CanClaimAddresses, ClaimsAddress, CanClaimAddress}};
 ghost use Rattle.ffs_claims.specs.{SilentAddresses.{ClaimsAddresses, with_run_counts}, Series.{CanClaimNext, ClaimsNext}};
+ghost use Rattle.ffs_claims.specs.Bounds.{address_bound};
 ghost use Rattle.ffs_claims.specs.Series.{HasNext, PassesSeries};
 
 use crate::area::DataArea;
@@ -62,7 +63,7 @@ impl RunCounts {
 /// Claims what an address of a block of data offers: nothing where it is 0 (a Gap), else its Run of
 /// `len` fragments, where that lies in the area, and its fragments are all unused and lie in one
 /// word of the map. Returns whether it was so: if not, nothing has changed. The counts are below
-/// 2^63 before, so that they stay below 2^64.
+/// `address_bound` before, so that they stay below 2^64.
 #[inline(always)]
 #[tactic(auto, using(crate::proofs::Frames::stay))]
 fn claim_address(
@@ -75,7 +76,7 @@ fn claim_address(
     requires some { 0 < len }
     requires can { CanClaimAddress (with_run_counts workspace.old counts.old) area.now }
     ensures claimed { IsTrue result → (layout : Layout)
-        → CanSeeNext layout (with_run_counts workspace.old counts.old) area.now (2 ^ 63)
+        → CanSeeNext layout (with_run_counts workspace.old counts.old) area.now address_bound
         → ClaimsAddress layout address len (with_run_counts workspace.old counts.old)
         (with_run_counts workspace.new counts.new) }
     ensures unchanged { result ≡ false → with_run_counts workspace.new counts.new
