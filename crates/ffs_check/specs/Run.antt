@@ -140,19 +140,25 @@ abbrev pub FlushedAfter : {S : Type 0} → (S → Result (Unit {0}) Error → S 
 FlushedAfter was_flushed contents old new ran_status status =
     IsUnprinted old new ran_status status ⊎ IsFlushed was_flushed contents old new ran_status status
 
--- how a run of a program ends whose writer is flushed after it: `out` and `out'` are the writer as an output, before
--- the run and after it, and `between` is the writer before the flush. The output failed only where a write did
-pub record RunsProgramFlushed {R O S E : Type 0} (program : Meaning R) (images : Images O)
-    (outlet : outlet_trait.Ghosts S) (errors_outlet : outlet_trait.Ghosts E) (words : List (List ℕ))
-    (old new : RunMoment O S E) (status : ℕ) : Type 0 where
+-- how a run ends whose writer is flushed after it: `out` and `out'` are the writer as an output, before the
+-- run and after it, `ends` says how the run ends, and `between` is the writer before the flush. The output
+-- failed only where a write did
+pub record EndsFlushed {S : Type 0} (outlet : outlet_trait.Ghosts S) (ends : Sink → Sink → ℕ → Type 0)
+    (old new : S) (status : ℕ) : Type 0 where
   pub out : Sink
   pub out' : Sink
   pub between : S
-  pub before : out.taken ≡ outlet.contents old.out
+  pub before : out.taken ≡ outlet.contents old
   pub unfailed : out.failures ≡ 0
   pub after : out'.taken ≡ outlet.contents between
   pub caused : ∥ IsCaused outlet.was_written out'.failures ∥₁
   pub ran_status : ℕ
-  pub ran : RunsProgram program images errors_outlet words (run_moment old.opener out old.errors)
-      (run_moment new.opener out' new.errors) ran_status
-  pub flushed : FlushedAfter outlet.was_flushed outlet.contents between new.out ran_status status
+  pub ran : ends out out' ran_status
+  pub flushed : FlushedAfter outlet.was_flushed outlet.contents between new ran_status status
+
+-- how a run of a program ends whose writer is flushed after it, and whose errors go to another writer
+abbrev pub RunsProgramFlushed : {R O S E : Type 0} → Meaning R → Images O → outlet_trait.Ghosts S →
+    outlet_trait.Ghosts E → List (List ℕ) → (old new : RunMoment O S E) → ℕ → Type 0
+RunsProgramFlushed program images outlet errors_outlet words old new status =
+    EndsFlushed outlet (λ out out' ran_status. RunsProgram program images errors_outlet words
+    (run_moment old.opener out old.errors) (run_moment new.opener out' new.errors) ran_status) old.out new.out status
