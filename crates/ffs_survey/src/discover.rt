@@ -182,7 +182,7 @@ fn read_reached<D: Directories>(
     let mut count = 0u32;
     directories.start(dir)?;
     while let Some(entry) = directories.next()? {
-        if matches!(entry.role, Role::Empty) {
+        if entry.number == 0 {
             calm_so_far = calm_so_far && count >= 2;
             count += 1 + directories.skip_empty();
             continue;
@@ -255,7 +255,7 @@ pub fn read_unreached<D: Directories>(
 {
     directories.start(dir)?;
     while let Some(entry) = directories.next()? {
-        if matches!(entry.role, Role::Empty) {
+        if entry.number == 0 {
             directories.skip_empty();
             continue;
         }

@@ -1,10 +1,13 @@
 //! An entry of a directory, without its name.
 ghost use Rattle.std.specs.Prelude.{◌≡◌};
+ghost use Rattle.ffs_volume.specs.declared.Role.TheVariants.{Empty};
 ghost use Rattle.ffs_volume.specs.Directories.Roles.{is_plain as is_plain_role, is_counted as is_counted_role};
 
 use ffs_volume::Role;
 
 /// An entry of a directory, without its name (dir(5)).
+///
+/// `unnumbered`: one with the number 0 is empty.
 #[derive(Clone, Copy, Debug)]
 pub struct EntryHead {
     /// What it is in its directory.
@@ -16,6 +19,7 @@ pub struct EntryHead {
     pub length: u16,
     /// Its type (`DT_DIR` and so on).
     pub kind: u8,
+    ghost unnumbered: { number ≡ 0 → role ≡ Empty },
 }
 
 /// Whether an entry is plain: its inode number isn't 0, and its name is neither `.` nor `..`.

@@ -6,7 +6,6 @@ use Rattle.ffs_survey.proofs.{Remaining.{discovered_same, discovered_whole}, Ski
 use Rattle.ffs_survey.specs.{Lent.current_in, Reading.roled_of, Survey.{bool_at, number_at}}
 use Rattle.ffs_volume.specs.Costs.Calm.{is_calm_entry}
 use Rattle.ffs_survey.proofs.discover.read_reached.Goals.{then-calm_so_far, else-calm_so_far, then-calm_so_far-2, else-calm_so_far-2}
-use Rattle.ffs_survey.proofs.discover.read_reached.Goals.{in-Empty, in_default-matches}
 use Rattle.ffs_survey.proofs.discover.read_reached.Goals as goal
 
 pub loop-entry-preserved : goal.loop-entry-preserved
@@ -54,18 +53,15 @@ loop-entry-preserved g c =
       right_shape = let s = rw inv.lent.base at c.in_ok-entry.ensures.shape in λ b k. s b k ∙ inv.right_shape b k;
     }
 
-pub loop-entry-preserved-then-matches : goal.loop-entry-preserved-then-matches
-loop-entry-preserved-then-matches g c =
+pub loop-entry-preserved-then-entry-eq0 : goal.loop-entry-preserved-then-entry-eq0
+loop-entry-preserved-then-entry-eq0 g c =
     let inv = c.loop-entry.invariant in
     let next = c.in_ok-entry.ensures in
     let skip = c.skip_empty.ensures in
     let same = next.reader.same ∙ inv.lent.base in
     let fell : g.D.Directories.left c.next.new.self < g.D.Directories.left c.loop-entry.directories = rw c.in-Some.is at next.left in
     let e : RoledEntry = roled_of c.in-Some.entry (g.D.Directories.name c.next.new.self) in
-    let empty : e.role ≡ Empty = elim c.match-matches.branch [
-      | in-Empty w ↦ w.in-Empty.is
-      | in_default-matches w ↦ absurd cc
-    ] in
+    let empty : e.role ≡ Empty = c.in-Some.entry.unnumbered c.if-entry-eq0.true in
     let rest = g.D.Directories.rest c.next.new.self in
     let after = g.D.Directories.rest c.skip_empty.new.self in
     let old = c.args.lists.now in

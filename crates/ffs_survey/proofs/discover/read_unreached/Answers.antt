@@ -2,24 +2,20 @@ use Rattle.std.proofs.Common.{arith, ap, ◌∙◌, ◌≡◌, ◌∷◌, ◌<�
 use Rattle.ffs_volume.specs.{Directories.Roles.RoledEntry, declared.Role.TheVariants.Empty}
 use Rattle.ffs_survey.proofs.{Lending.still_by, Skipping.{FindsSame, skipped_same}, Totals.entry_counted}
 use Rattle.ffs_survey.specs.Reading.{roled_of}
-use Rattle.ffs_survey.proofs.discover.read_unreached.Goals.{in-Empty, in_default-matches}
 use Rattle.ffs_survey.proofs.discover.read_unreached.Goals as goal
 
 pub loop-entry-preserved : goal.loop-entry-preserved
 loop-entry-preserved g c = grind (arith, entry_counted)
 
-pub loop-entry-preserved-then-matches : goal.loop-entry-preserved-then-matches
-loop-entry-preserved-then-matches g c =
+pub loop-entry-preserved-then-entry-eq0 : goal.loop-entry-preserved-then-entry-eq0
+loop-entry-preserved-then-entry-eq0 g c =
     let inv = c.loop-entry.invariant in
     let next = c.in_ok-entry.ensures in
     let skip = c.skip_empty.ensures in
     let same = next.reader.same ∙ inv.lent.base in
     let fell : g.D.Directories.left c.next.new.self < g.D.Directories.left c.loop-entry.directories = rw c.in-Some.is at next.left in
     let e : RoledEntry = roled_of c.in-Some.entry (g.D.Directories.name c.next.new.self) in
-    let empty : e.role ≡ Empty = elim c.match-matches.branch [
-      | in-Empty w ↦ w.in-Empty.is
-      | in_default-matches w ↦ absurd cc
-    ] in
+    let empty : e.role ≡ Empty = c.in-Some.entry.unnumbered c.if-entry-eq0.true in
     let rest = g.D.Directories.rest c.next.new.self in
     let after = g.D.Directories.rest c.skip_empty.new.self in
     let reported = rw inv.lent.base at next.rest in

@@ -1,7 +1,12 @@
-use Rattle.std.proofs.Common.{arith, refl}
+use Rattle.std.proofs.Common.{arith, refl, sym, ◌∙◌}
 use Rattle.ffs_layout.specs.Entry.{entry_value}
-use Rattle.ffs_names.{specs.Readings.rest, proofs.{Entered.take_reported, Shaped.fills_next}}
+use Rattle.ffs_names.{specs.Readings.rest, proofs.{Entered.take_reported, Shaped.fills_next, Skipped.empty_role}}
 use Rattle.ffs_names.proofs.entries.Entries.take.Goals as goal
+
+pub invariant_of-head : goal.invariant_of-head
+invariant_of-head c =
+    let s = c.args.self.now in
+    record { unnumbered = λ none. c.role_of-role.ensures ∙ sym (empty_role s.at_start s.index (entry_value c.in-Some.entry) none) }
 
 pub returns : goal.returns
 returns c =
