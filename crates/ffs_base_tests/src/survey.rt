@@ -20,7 +20,7 @@ const ENTRIES_EACH: usize = 5;
 /// Five entries for each of eight inodes. It reports nothing of an image.
 #[derive(Drop)]
 struct Listed {
-    entries: &'static [[EntryHead; ENTRIES_EACH]; 8],
+    entries: &'static [[(Role, u32); ENTRIES_EACH]; 8],
     dir: usize,
     place: usize,
 }
@@ -70,16 +70,16 @@ impl Directories for Listed {
         if self.dir >= self.entries.len() || self.place >= ENTRIES_EACH {
             return Ok(None);
         }
-        let entry = self.entries[self.dir][self.place];
+        let (role, number) = self.entries[self.dir][self.place];
         self.place += 1;
-        Ok(Some(entry))
+        Ok(Some(entry_of(role, number)))
     }
 
     fn skip_empty(&mut self) -> u32 {
         if self.dir >= self.entries.len() || self.place >= ENTRIES_EACH {
             return 0;
         }
-        if !matches!(self.entries[self.dir][self.place].role, Role::Empty) {
+        if self.entries[self.dir][self.place].1 != 0 {
             return 0;
         }
         self.place += 1;
@@ -91,50 +91,49 @@ impl Directories for Listed {
     }
 }
 
-macro_rules! entry {
-    ($role:expr, $number:expr) => {
-        EntryHead {
-            role: $role,
-            number: $number,
-            length: 12,
-            kind: 4,
-        }
-    };
+/// An entry of a directory: a free one, if it has no number.
+fn entry_of(role: Role, number: u32) -> EntryHead {
+    EntryHead {
+        role: if number == 0 { Role::Empty } else { role },
+        number,
+        length: 12,
+        kind: 4,
+    }
 }
 
-const NONE: [EntryHead; ENTRIES_EACH] = [entry!(Role::Empty, 0); ENTRIES_EACH];
+const NONE: [(Role, u32); ENTRIES_EACH] = [(Role::Empty, 0); ENTRIES_EACH];
 
-static ENTRIES: [[EntryHead; ENTRIES_EACH]; 8] = [
+static ENTRIES: [[(Role, u32); ENTRIES_EACH]; 8] = [
     NONE,
     NONE,
     [
-        entry!(Role::Dot, 2),
-        entry!(Role::Dotdot, 2),
-        entry!(Role::Empty, 0),
-        entry!(Role::Empty, 0),
-        entry!(Role::Plain, 3),
+        (Role::Dot, 2),
+        (Role::Dotdot, 2),
+        (Role::Empty, 0),
+        (Role::Empty, 0),
+        (Role::Plain, 3),
     ],
     [
-        entry!(Role::Dot, 3),
-        entry!(Role::Dotdot, 2),
-        entry!(Role::Plain, 4),
-        entry!(Role::Extra, 2),
-        entry!(Role::Empty, 0),
+        (Role::Dot, 3),
+        (Role::Dotdot, 2),
+        (Role::Plain, 4),
+        (Role::Extra, 2),
+        (Role::Empty, 0),
     ],
     NONE,
     [
-        entry!(Role::Dot, 5),
-        entry!(Role::Dotdot, 6),
-        entry!(Role::Empty, 0),
-        entry!(Role::Empty, 0),
-        entry!(Role::Plain, 6),
+        (Role::Dot, 5),
+        (Role::Dotdot, 6),
+        (Role::Empty, 0),
+        (Role::Empty, 0),
+        (Role::Plain, 6),
     ],
     [
-        entry!(Role::Dot, 6),
-        entry!(Role::Dotdot, 5),
-        entry!(Role::Plain, 5),
-        entry!(Role::Empty, 0),
-        entry!(Role::Empty, 0),
+        (Role::Dot, 6),
+        (Role::Dotdot, 5),
+        (Role::Plain, 5),
+        (Role::Empty, 0),
+        (Role::Empty, 0),
     ],
     NONE,
 ];
