@@ -79,7 +79,10 @@ entries-preserved g c =
     }
 
 pub returns-then-is_naming-clause-reads : goal.returns-then-is_naming-clause-reads
-returns-then-is_naming-clause-reads g c = grind arith
+returns-then-is_naming-clause-reads g c =
+    let i = c.entries.invariant in
+    let next = c.in_ok-entry.ensures in
+    chunk_then i.reads (rw i.geometry at next.leaves.ready) next.leaves.read
 
 pub returns-clause-reads : goal.returns-clause-reads
 returns-clause-reads g c = grind arith
