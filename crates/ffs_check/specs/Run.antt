@@ -8,7 +8,6 @@ use Rattle.ffs_report.specs.{Outlet.IsCaused, Sink.{BrokeOff, Sink, Took}}
 use Rattle.ffs_report.specs.declared.outlet.Outlet as outlet_trait
 use Rattle.ffs_image.specs.declared.image.Image as image_trait
 use Rattle.ffs_check.specs.declared.opener.Opener as opener_trait
-use Rattle.ffs_check.specs.declared.run.TheConstants.{NOT_COMPLETED, WRONG_WORDS}
 use Rattle.ffs_check.specs.{Moment.Moment, Program.Meaning, Refusals.IsWritten}
 
 -- the line where the image can't be opened
@@ -71,7 +70,7 @@ pub record IsOpenFailure {O : Type 0} (images : Images O) (name : List ℕ) (old
     Type 0 where
   pub refused : images.refuses old.opener name new.opener
   pub printed : IsPrintedOrBrokeOff old.out new.out (unopened_text name)
-  pub status_is : status ≡ NOT_COMPLETED
+  pub status_is : status ≡ 8
 
 -- what is asked for was carried out on the image of a name, or the image couldn't be opened
 abbrev pub OpensAndCarriesOut : {O : Type 0} → Images O → (name : List ℕ) → (Moment → Moment → ℕ → Type 0) →
@@ -99,7 +98,7 @@ pub record IsRefused {R O E : Type 0} (program : Meaning R) (outlet : outlet_tra
   pub written : IsWritten outlet.contents outlet.was_written old.errors new.errors text
   pub unprinted : new.out ≡ old.out
   pub unopened : new.opener ≡ old.opener
-  pub status_is : status ≡ WRONG_WORDS
+  pub status_is : status ≡ 2
 
 -- memory was refused while the words were read. No image is opened
 pub record HadNoMemory {R O E : Type 0} (program : Meaning R) (words : List (List ℕ)) (old new : RunMoment O Sink E)
@@ -108,7 +107,7 @@ pub record HadNoMemory {R O E : Type 0} (program : Meaning R) (words : List (Lis
   pub printed : IsPrintedOrBrokeOff old.out new.out (text_of cannot_alloc)
   pub unopened : new.opener ≡ old.opener
   pub unwritten : new.errors ≡ old.errors
-  pub status_is : status ≡ NOT_COMPLETED
+  pub status_is : status ≡ 8
 
 -- how a run of a program ends: as asked, or without memory, and then nothing goes to standard error; or
 -- refused, and the text for that goes there
@@ -122,17 +121,17 @@ RunsProgram program images errors_outlet words old new status =
 -- flush succeeded, and is 8 where it failed
 pub record IsFlushed {S : Type 0} (was_flushed : S → Result (Unit {0}) Error → S → Type 0)
     (contents : S → Option (List ℕ)) (old new : S) (ran_status status : ℕ) : Type 0 where
-  pub unrefused : ran_status ≡ WRONG_WORDS → ⊥
+  pub unrefused : ran_status ≡ 2 → ⊥
   pub answer : Result (Unit {0}) Error
   pub flushed : was_flushed old answer new
   pub kept : Keeps (contents old) (contents new)
-  pub status_is : MatchResult answer (λ _. status ≡ ran_status) (λ _. status ≡ NOT_COMPLETED)
+  pub status_is : MatchResult answer (λ _. status ≡ ran_status) (λ _. status ≡ 8)
 
 -- nothing was printed, and nothing is flushed
 pub record IsUnprinted {S : Type 0} (old new : S) (ran_status status : ℕ) : Type 0 where
-  pub refused : ran_status ≡ WRONG_WORDS
+  pub refused : ran_status ≡ 2
   pub untouched : new ≡ old
-  pub status_is : status ≡ WRONG_WORDS
+  pub status_is : status ≡ 2
 
 -- what follows a run with a status: a flush of its writer, unless the words were refused
 abbrev pub FlushedAfter : {S : Type 0} → (S → Result (Unit {0}) Error → S → Type 0) → (S → Option (List ℕ)) →
