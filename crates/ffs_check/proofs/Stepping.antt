@@ -50,7 +50,7 @@ begins s {start = start} sound = record {
   image = refl;
   sure = tt;
   holds = λ bytes k. k.1;
-  said = of_begins _ _ start;
+  said = of_begins;
   read = λ bytes k. omega arith;
   paid = paid_none (omega arith);
 }
@@ -104,8 +104,8 @@ module _ (s : Superblock) where
       image = ran.image ∙ at.image;
       sure = sure;
       holds = λ bytes k. holds bytes (given at bytes k);
-      said = of_part _ _ part Q.rest _ _ _ _ at.said (λ bytes k. e bytes (given at bytes k))
-          (said_knows _ _ (λ bytes. []) part _ _ (λ bytes k. knows bytes (given at bytes k)) ran.text);
+      said = of_part {rest' = Q.rest} at.said (λ bytes k. e bytes (given at bytes k))
+          (said_knows (λ bytes k. knows bytes (given at bytes k)) ran.text);
       read = λ bytes k. omega (arith, at.read bytes k, spent.known bytes (given at bytes k));
       paid = paid_then at.paid (paid_answer spent.paid);
     }
@@ -123,7 +123,7 @@ module _ (s : Superblock) where
           image = rw at.image at ran.image;
           text = record {
             rest = λ bytes. ran.text.rest bytes ++ rest' bytes;
-            prefix = of_says _ _ (λ bytes. ran.text.rest bytes ++ rest' bytes) _ prefix.messages _ _ _ at.said
+            prefix = of_says {rest' = λ bytes. ran.text.rest bytes ++ rest' bytes} {ms = prefix.messages} at.said
                 (λ bytes k. let known = given at bytes k in
                 e bytes known ∙ ap (λ (xs : List Message). xs ++ rest' bytes)
                 (sym (prefix.right bytes (knows bytes known)))
@@ -205,7 +205,7 @@ module _ (s : Superblock) where
         image = rw at.image at ran.image;
         text = record {
           rest = rest;
-          prefix = of_says _ _ rest _ (phase2 ∷ []) _ _ _ at.said (λ bytes k. refl) said;
+          prefix = of_says {rest' = rest} {ms = phase2 ∷ []} at.said (λ bytes k. refl) said;
           more = λ bytes k. root_or_more (volume_of s.layout bytes) (λ go. after_phase2 go bytes s)
               (some_more phase3 _);
         };

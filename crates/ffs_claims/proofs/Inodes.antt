@@ -111,7 +111,7 @@ pub class_stopped : {knows : List ℕ → Type 0} {a b : Progress} {class : Clas
     (s : Claims) → class ≡ class_of v i → Stopped a b (of_lines (class_lines number class)) →
     StoppedOf knows (λ bytes. of_lines (owner_lines v s (owner_with v bytes number i))) a b
 class_stopped v number i s k q = of_stops _ _ (rest_lines v number i (class_of v i) (at_next_inode s))
-    _ _ _ _ _ (of_begins _ _ _) (λ bytes t. parts v number i s bytes) (rw k at q)
+    _ _ _ _ _ of_begins (λ bytes t. parts v number i s bytes) (rw k at q)
 
 -- its steps are reported then, and the count's line is that of the claims that are there
 pub steps_reported : {knows : List ℕ → Type 0} {a b c : Progress} {s1 s2 : Claims} {class : Class} (v : Layout)
@@ -121,7 +121,7 @@ pub steps_reported : {knows : List ℕ → Type 0} {a b c : Progress} {s1 s2 : C
     ForBytes knows (λ bytes. s2 ≡ after_steps v s1 (steps_of v i bytes)) →
     SaidOf knows (λ bytes. of_lines (count_lines v (counted_owner number class i.blocks) s2) ++ [])
     (λ bytes. of_lines (owner_lines v s (owner_with v bytes number i))) a c
-steps_reported v number i s e k q steps h = of_part _ _ _ _ _ _ _ _ (class_said v number i s e k q)
+steps_reported v number i s e k q steps h = of_part (class_said v number i s e k q)
     (λ bytes t. rw (h bytes t, append-nil) refl) steps
 
 -- the Runs that were seen are as they were, and how many fragments are used

@@ -119,7 +119,7 @@ pub rewalk_said : {knows : List ℕ → Type 0} {all : List ℕ → List Message
     SaidOf knows (λ bytes. of_lines (rest bytes)) all a c
 rewalk_said {v = v} {cut = cut} {k = k} {k' = k'} {step = step} {old = old} {new = new} i x y rest cuts said next
     p on same out =
-    of_says _ _ _ _ _ _ _ _ said (λ bytes t. lines_step v i cut (replay_in k) (replay_in k') step (steps_left bytes x)
+    of_says said (λ bytes t. lines_step v i cut (replay_in k) (replay_in k') step (steps_left bytes x)
     (steps_left bytes y) (bits_of old.duplicates) (bits_of new.duplicates) (next bytes t) (rw cuts at on.next)
     (rw cuts at p.duplicates)
     ∙ ap (λ xs. of_lines (first_offer_lines (bits_of old.duplicates) (step_offers_again v i cut (replay_in k) step))

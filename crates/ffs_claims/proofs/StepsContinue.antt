@@ -92,10 +92,9 @@ pub steps_said : {knows : List ℕ → Type 0} {all : List ℕ → List Message}
     ForBytes knows (λ bytes. lines_of_steps v inode s' (steps_left bytes y) ≡ rest bytes) →
     Said b c (of_lines (step_lines v inode s step)) → SaidOf knows (λ bytes. of_lines (rest bytes)) all a c
 steps_said v inode s s' x y rest step said next now same out =
-    of_same _ (λ bytes. of_lines (lines_of_steps v inode s' (steps_left bytes y))) (λ bytes. of_lines (rest bytes)) _ _
-    _
-    (of_says _ _ (λ bytes. of_lines (lines_of_steps v inode s' (steps_left bytes y))) _
-    (of_lines (step_lines v inode s step)) _ _ _ said (lines_on v inode s s' x y step next now) out)
+    of_same {rest = λ bytes. of_lines (lines_of_steps v inode s' (steps_left bytes y))} {rest' = λ bytes. of_lines (rest bytes)}
+    (of_says {rest' = λ bytes. of_lines (lines_of_steps v inode s' (steps_left bytes y))}
+    {ms = of_lines (step_lines v inode s step)} said (lines_on v inode s s' x y step next now) out)
     (λ bytes t. ap of_lines (same bytes t))
 
 -- gaps in a row change nothing, and nothing is reported of them

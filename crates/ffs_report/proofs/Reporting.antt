@@ -13,9 +13,9 @@ use Rattle.ffs_report.specs.declared.fault.RunFault.TheVariants.{Read, Out}
 pub to_begins : (all : List Message) (a : Progress) → SaidTo all all a a
 to_begins all a = record { messages = []; right = refl; said = said_none a }
 
-pub to_says : (rest rest' all ms : List Message) (a b c : Progress) → SaidTo rest all a b → rest ≡ ms ++ rest' →
+pub to_says : {rest rest' all ms : List Message} {a b c : Progress} → SaidTo rest all a b → rest ≡ ms ++ rest' →
     Said b c ms → SaidTo rest' all a c
-to_says rest rest' all ms a b c p e q = record {
+to_says {rest} {rest'} {all} {ms} {a} {b} {c} p e q = record {
   messages = p.messages ++ ms;
   right = grind (arith, append_assoc, e, p.right);
   said = said_then a b c p.messages ms p.said q;
@@ -29,14 +29,14 @@ pub to_ends : (rest all : List Message) (a b : Progress) → SaidTo rest all a b
 to_ends rest all a b p e = grind (arith, append-nil)
 
 -- ---- messages of an image's bytes
-pub of_begins : (knows : List ℕ → Type 0) (all : List ℕ → List Message) (a : Progress) → SaidOf knows all all a a
-of_begins knows all a = record { messages = []; right = λ bytes k. refl; said = said_none a }
+pub of_begins : {knows : List ℕ → Type 0} {all : List ℕ → List Message} {a : Progress} → SaidOf knows all all a a
+of_begins {knows} {all} {a} = record { messages = []; right = λ bytes k. refl; said = said_none a }
 
-pub of_says : (knows : List ℕ → Type 0) (rest rest' all : List ℕ → List Message) (ms : List Message) (a b c : Progress)
+pub of_says : {knows : List ℕ → Type 0} {rest rest' all : List ℕ → List Message} {ms : List Message} {a b c : Progress}
     →
     SaidOf knows rest all a b → ForBytes knows (λ bytes. rest bytes ≡ ms ++ rest' bytes) → Said b c ms →
     SaidOf knows rest' all a c
-of_says knows rest rest' all ms a b c p e q = record {
+of_says {knows} {rest} {rest'} {all} {ms} {a} {b} {c} p e q = record {
   messages = p.messages ++ ms;
   right = λ bytes k. grind (arith, append_assoc, e bytes k, p.right bytes k);
   said = said_then a b c p.messages ms p.said q;
@@ -53,9 +53,9 @@ of_stops knows rest rest' all ms a b c p e q = record {
   stopped = stopped_after a b c p.messages ms p.said q;
 }
 
-pub of_reads : (knows : List ℕ → Type 0) (rest all : List ℕ → List Message) (a b : Progress) → SaidOf knows rest all a b
+pub of_reads : {knows : List ℕ → Type 0} {rest all : List ℕ → List Message} {a b : Progress} → SaidOf knows rest all a b
     → SaidPrefixOf knows all a b
-of_reads knows rest all a b p = record { rest = rest; prefix = p }
+of_reads {knows} {rest} {all} {a} {b} p = record { rest = rest; prefix = p }
 
 -- all was said at once, or nothing is to come, and the output failed among all
 pub says_all : {knows : List ℕ → Type 0} {all : List ℕ → List Message} {ms : List Message} {a b : Progress} →
@@ -77,7 +77,7 @@ stops_all {knows} {all} {ms} e p = record {
 
 -- a read failed before anything was said
 pub reads_first : {knows : List ℕ → Type 0} {all : List ℕ → List Message} {a : Progress} → SaidPrefixOf knows all a a
-reads_first {knows} {all} {a} = of_reads knows all all a a (of_begins knows all a)
+reads_first {knows} {all} {a} = of_reads (of_begins {all = all})
 
 -- a heading was said, and other messages are to come
 pub says_heading : {knows : List ℕ → Type 0} {lines rest : List ℕ → List Message} {m : Message} {a b : Progress} →
@@ -91,15 +91,15 @@ stops_heading {lines = lines} {m = m} p =
     record { messages = m ∷ []; rest = lines; right = λ bytes k. refl; stopped = p }
 
 -- what is to come has changed its form
-pub of_same : (knows : List ℕ → Type 0) (rest rest' all : List ℕ → List Message) (a b : Progress) →
+pub of_same : {knows : List ℕ → Type 0} {rest rest' all : List ℕ → List Message} {a b : Progress} →
     SaidOf knows rest all a b → ForBytes knows (λ bytes. rest bytes ≡ rest' bytes) → SaidOf knows rest' all a b
-of_same knows rest rest' all a b p e = grind arith
+of_same {knows} {rest} {rest'} {all} {a} {b} p e = grind arith
 
 -- a part of a phase answered Ok, or a fault
-pub of_part : (knows : List ℕ → Type 0) (rest part rest' all : List ℕ → List Message) (a b c : Progress) →
+pub of_part : {knows : List ℕ → Type 0} {rest part rest' all : List ℕ → List Message} {a b c : Progress} →
     SaidOf knows rest all a b → ForBytes knows (λ bytes. rest bytes ≡ part bytes ++ rest' bytes) →
     SaidOf knows (λ bytes. []) part b c → SaidOf knows rest' all a c
-of_part knows rest part rest' all a b c p e q = record {
+of_part {knows} {rest} {part} {rest'} {all} {a} {b} {c} p e q = record {
   messages = p.messages ++ q.messages;
   right = λ bytes k. grind (arith, append_assoc, append-nil, p.right bytes k, q.right bytes k, e bytes k);
   said = said_then a b c p.messages q.messages p.said q.said;
@@ -152,9 +152,9 @@ reports_by : (T : Type 0) (knows knows' : List ℕ → Type 0) (all all' : List 
     PhaseReports knows all a b r → PhaseReports knows' all' a b r
 reports_by T knows knows' all all' a b r p1 p2 p3 = grind arith
 
-pub said_knows : (knows knows' : List ℕ → Type 0) (rest all : List ℕ → List Message) (a b : Progress) →
+pub said_knows : {knows knows' : List ℕ → Type 0} {rest all : List ℕ → List Message} {a b : Progress} →
     ForBytes knows' knows → SaidOf knows rest all a b → SaidOf knows' rest all a b
-said_knows knows knows' rest all a b more p = said_by knows knows' rest all all a b more (λ bytes k. refl) p
+said_knows {knows} {knows'} {rest} {all} {a} {b} more p = said_by knows knows' rest all all a b more (λ bytes k. refl) p
 
 pub reports_knowing : (T : Type 0) (knows knows' : List ℕ → Type 0) (all : List ℕ → List Message) (a b : Progress)
     (r : Result T RunFault) →

@@ -10,8 +10,8 @@ pub leaves_all : (w : Workspace) → LeavesSurvey w w
 leaves_all w = grind arith
 
 -- what two calls leave
-pub leaves_more : (a b c : Workspace) → LeavesSurvey a b → LeavesSurvey b c → LeavesSurvey a c
-leaves_more a b c s t = grind arith
+pub leaves_more : {a b c : Workspace} → LeavesSurvey a b → LeavesSurvey b c → LeavesSurvey a c
+leaves_more {a} {b} {c} s t = grind arith
 
 pub block_check_kept : (w : Workspace) → LeavesBlockCheck w w
 block_check_kept w = grind arith

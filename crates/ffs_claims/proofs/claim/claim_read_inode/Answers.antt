@@ -103,7 +103,7 @@ returns-clause-claims g c =
     let ready = ready_stored c.store-2.ensures.stored c.store-2.ensures.same left.claim.ready in
     let m = c.in_ok-claim_steps.ensures.left.claim_bound in
     record {
-      text = of_says _ _ (λ bytes. []) _ _ _ _ _ (steps_reported v _ _ (claims_of c.args.workspace.now)
+      text = of_says {rest' = λ bytes. []} (steps_reported v _ _ (claims_of c.args.workspace.now)
           (ap claims_of c.clear_counts.ensures) c.requires.class_is c.in_ok-say_class.ensures
           c.in_ok-claim_steps.ensures.text c.in_ok-claim_steps.ensures.claims) (λ bytes t. refl)
           c.in_ok-say_count.ensures;

@@ -67,7 +67,7 @@ loop-next-init g c =
         ap (indirect_in_steps v s) (walk.steps bytes),
       );
       claims = λ bytes t. words.means.claims image blocks bytes t ∙ ap (after_steps v s) (walk.steps bytes);
-      said = of_same _ _ _ _ _ _ (of_begins _ _ _)
+      said = of_same of_begins
           (λ bytes t. ap of_lines (sym (words.means.lines image blocks bytes t c.args.owner.now.number
           ∙ ap (lines_of_steps v c.args.owner.now.number s) (walk.steps bytes))));
     }
@@ -93,7 +93,7 @@ returns-then-not-has_address g c =
     sym (ap (after_steps v s') (over bytes)) ∙ words.means.claims image blocks bytes t
     ∙ ap (after_steps v s) (walk.steps bytes) in
     record {
-      text = of_same _ _ _ _ _ _ (of_begins _ _ _)
+      text = of_same of_begins
           (λ bytes t. ap of_lines (sym (words.means.lines image blocks bytes t n ∙ ap (lines_of_steps v n s) (walk.steps bytes))
           ∙ ap (lines_of_steps v n s') (over bytes)));
       claims = now;
@@ -118,7 +118,7 @@ returns-in_err-next g c =
     let ready = ready_read {d' = g.I.Image.device c.next.new.image} err.contents err.size inv.geometry
     c.next.ensures.leaves.kept inv.left.claim.ready in
     rw (p.1, p.2) (record {
-      text = of_reads _ _ _ _ _ inv.said;
+      text = of_reads inv.said;
       claims = tt;
       image = rw inv.device at err;
       left = grind arith;
@@ -213,7 +213,7 @@ loop-next-preserved-then-matches g c =
       claims = λ bytes t. sym (ap (after_steps v s) (gaps bytes t)
           ∙ (gaps_over v c.args.owner.now.number s c.skip_gaps.result (rest bytes)).0)
           ∙ inv.claims bytes t;
-      said = of_same _ _ _ _ _ _ inv.said (λ bytes t.
+      said = of_same inv.said (λ bytes t.
           ap (λ xs. of_lines (lines_of_steps v c.args.owner.now.number s xs)) (gaps bytes t)
           ∙ ap of_lines (gaps_over v c.args.owner.now.number s c.skip_gaps.result (rest bytes)).1);
     }
@@ -322,7 +322,7 @@ returns-in_default g c =
     let s = claims_of c.loop-next.workspace in
     let over = rw (inv.device, c.in_default.is) at c.in_ok-next.ensures.step.steps in
     record {
-      text = of_same _ _ _ _ _ _ inv.said
+      text = of_same inv.said
           (λ bytes t. ap (λ xs. of_lines (lines_of_steps v c.args.owner.now.number s xs)) (over bytes t));
       claims = λ bytes t. sym (ap (after_steps v s) (over bytes t)) ∙ inv.claims bytes t;
       image = c.in_ok-next.ensures.leaves.read ∙ inv.device;

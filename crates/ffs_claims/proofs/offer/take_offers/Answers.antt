@@ -25,7 +25,7 @@ loop-index-preserved g c =
       kept = grind arith;
       claims = inv.claims ∙ rw (range_next run.start run.len c.loop-index.index f c.loop-index-test.true (omega arith))
           (rw c.take_offer.ensures.taken.claims refl);
-      said = to_says _ _ _ _ _ _ _ inv.said
+      said = to_says inv.said
           (offers_more v _ _ _ run.start run.len c.loop-index.index f c.loop-index-test.true (omega arith)
           c.take_offer.ensures.taken.claims) c.in_ok-take_offer.ensures.said;
     }

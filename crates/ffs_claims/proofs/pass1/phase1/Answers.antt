@@ -121,8 +121,8 @@ loop-number-preserved g c =
       found = found_next inv.low lt inv.ready.ready.ready.made (after bytes k)
           (c.in_ok-claim_inode.ensures.stored bytes (contents ∙ k.0)) (inv.found bytes k);
     } in
-    let said = of_part _ _ _ _ _ _ _ _ inv.said (λ bytes k. lines_next v bytes s s' n lt (now bytes (contents ∙ k.0)))
-    (said_knows _ _ _ _ _ _ (λ bytes k. contents ∙ k.0) c.in_ok-claim_inode.ensures.claims.text) in
+    let said = of_part inv.said (λ bytes k. lines_next v bytes s s' n lt (now bytes (contents ∙ k.0)))
+    (said_knows (λ bytes k. contents ∙ k.0) c.in_ok-claim_inode.ensures.claims.text) in
     let runs : w.runs_seen ≤ used_bits s' + 22 * (n + 1 - 2) =
     omega (arith, inv.runs, inv.low, c.in_ok-claim_inode.ensures.claims.left.runs_claim) in
     let reads = blocks_next c.args.geometry.now.sound c.claim_inode.ensures.by_block.again
@@ -153,7 +153,7 @@ loop-number-preserved g c =
                 (stands bytes k)).claims;
             found = λ bytes k. (stands_later (omega (arith, inv.low)) some high ready.ready.made (free bytes k)
                 (stands bytes k)).found;
-            said = of_same _ _ _ _ _ _ said
+            said = of_same said
                 (λ bytes k. lines_later v bytes s' (n + 1) next some high (free bytes k));
             heading = heading;
           })

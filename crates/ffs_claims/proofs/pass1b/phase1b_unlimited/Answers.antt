@@ -30,7 +30,7 @@ pub returns-in_err-say-clause-again : goal.returns-in_err-say-clause-again
 returns-in_err-say-clause-again g c =
     let p = err_from_is_err_and c.from_residual.result c.from_residual.ensures.1 in
     let all = phase1b_messages_for (bits_of c.args.workspace.now.duplicates) c.args.geometry.now.layout in
-    rw (p.1, p.2) (of_stops _ all _ _ (phase1b ∷ []) _ _ _ (of_begins _ all _) (λ bytes t. refl)
+    rw (p.1, p.2) (of_stops _ all _ _ (phase1b ∷ []) _ _ _ (of_begins {all = all}) (λ bytes t. refl)
     c.in_err-say.ensures.said)
 
 pub returns-in_err-say-clause-offers : goal.returns-in_err-say-clause-offers
@@ -68,9 +68,9 @@ loop-number-init g c =
       inodes = λ bytes k. rw (before_first v bytes, same, k.1.duplicates) refl;
       reported = λ bytes k. reporting_begins old _ (rw (before_first v bytes) refl)
           (ap (λ (w : Workspace). w.duplicates) forgot) (ap (λ (w : Workspace). w.marked) forgot);
-      said = of_says _ (phase1b_messages_for (bits_of old.duplicates) v)
-          (λ bytes. of_lines (first_offer_lines d (kept_from v bytes 2))) _ (phase1b ∷ []) _ _ _
-          (of_begins _ (phase1b_messages_for (bits_of old.duplicates) v) _)
+      said = of_says
+          {rest' = λ bytes. of_lines (first_offer_lines d (kept_from v bytes 2))} {ms = phase1b ∷ []}
+          (of_begins {all = phase1b_messages_for (bits_of old.duplicates) v})
           (λ bytes k. rw (before_first v bytes, same) refl) c.in_ok-say.ensures.said;
       heading = heading_alone c.in_ok-say.ensures.said;
     }
@@ -188,12 +188,12 @@ loop-number-preserved g c =
       );
       reported = λ bytes k. reporting_more (inv.reported bytes k) (kept_next v bytes notes n (noted bytes k))
           (rewalks.rewalked bytes (image ∙ k.0)).reported;
-      said = of_part _ (λ bytes. of_lines (first_offer_lines d (kept_from v bytes n)))
-          (λ bytes. of_lines (first_offer_lines d (offers_at v bytes notes n)))
-          (λ bytes. of_lines (first_offer_lines d' (kept_from v bytes (n + 1)))) _ _ _ _ inv.said
+      said = of_part
+          {part = λ bytes. of_lines (first_offer_lines d (offers_at v bytes notes n))}
+          {rest' = λ bytes. of_lines (first_offer_lines d' (kept_from v bytes (n + 1)))} inv.said
           (λ bytes k. lines_split d d' _ _ _ (kept_next v bytes notes n (noted bytes k))
           (rewalks.rewalked bytes (image ∙ k.0)).reported.duplicates)
-          (said_knows _ _ _ _ _ _ (λ bytes k. image ∙ k.0) rewalks.text);
+          (said_knows (λ bytes k. image ∙ k.0) rewalks.text);
       heading = heading_part _ _ (Ok tt) inv.heading rewalks.text;
     }
 
@@ -208,7 +208,7 @@ returns-then-not-has_unreported_dups g c =
     record {
       faults = inv.device;
       heading = inv.heading;
-      again = of_same _ _ (λ bytes. []) _ _ _ inv.said
+      again = of_same {rest' = λ bytes. []} inv.said
           (λ bytes k. ap of_lines (none_first d (kept_from v bytes n) none));
       leaves = λ bytes k. record {
         claims = claims_hold v bytes c.args.workspace.now _ k.1 inv.claims (reporting_over none (inv.reported bytes (k.0, k.1.notes)));
@@ -238,7 +238,7 @@ returns-after-loop-number g c =
     record {
       faults = inv.device;
       heading = inv.heading;
-      again = of_same _ _ (λ bytes. []) _ _ _ inv.said (λ bytes k. ap (λ os. of_lines (first_offer_lines d os))
+      again = of_same {rest' = λ bytes. []} inv.said (λ bytes k. ap (λ os. of_lines (first_offer_lines d os))
           (kept_end v bytes (claims_before v bytes n) n past));
       leaves = λ bytes k. record {
         claims = claims_hold v bytes c.args.workspace.now _ k.1 inv.claims

@@ -38,7 +38,7 @@ loop-next-init g c =
       indirect = λ bytes t. rw (begun, steps bytes)
           (omega (arith, top_unread c.start-walk.result c.start-walk.ensures.top));
       walk = λ bytes t. rewalk_begins begun (steps bytes);
-      said = of_same _ _ _ _ _ _ (of_begins _ _ _) (λ bytes t. rw (begun, steps bytes) refl);
+      said = of_same of_begins (λ bytes t. rw (begun, steps bytes) refl);
     }
 
 pub next-requires : goal.next-requires
@@ -53,7 +53,7 @@ returns-in_err-next-clause-walks g c =
     let ready = ready_read {d' = g.I.Image.device c.next.new.image} err.contents err.size inv.geometry
     c.next.ensures.leaves.kept inv.left.ready in
     rw (p.1, p.2) (record {
-      text = of_reads _ _ _ _ _ inv.said;
+      text = of_reads inv.said;
       rewalked = tt;
       part = λ bytes t. part_now (inv.walk bytes t).reported refl refl;
       runs = λ bytes t. omega (arith, (inv.walk bytes t).runs);
@@ -260,7 +260,7 @@ returns-in_default-clause-walks g c =
     let none = λ (bytes : List ℕ) (t : IsContents (g.I.Image.device c.args.image.now).contents bytes).
     offers_none c.args.geometry.now.layout c.args.number _ (replay_in c.loop-next.keeping) _ (over bytes t) in
     record {
-      text = of_same _ _ _ _ _ _ inv.said (λ bytes t. ap (λ os. of_lines (first_offer_lines d os)) (none bytes t));
+      text = of_same inv.said (λ bytes t. ap (λ os. of_lines (first_offer_lines d os)) (none bytes t));
       rewalked = λ bytes t. rewalked_to (rewalk_ends (none bytes t) (rw (over bytes t) refl)
           (inv.walk bytes t));
       part = tt;

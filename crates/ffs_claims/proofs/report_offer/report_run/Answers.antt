@@ -30,7 +30,7 @@ loop-index-preserved g c =
     record {
       only = offers_reported_then inv.only c.in_ok-report_offer.ensures.reported.only;
       reported = reporting_more inv.reported next c.in_ok-report_offer.ensures.reported.reported;
-      said = to_says _ _ _ _ _ _ _ inv.said
+      said = to_says inv.said
           (lines_split _ _ _ (offer_of n f ∷ []) _ next c.in_ok-report_offer.ensures.reported.reported.duplicates)
           c.in_ok-report_offer.ensures.said;
     }

@@ -54,7 +54,7 @@ loop-number-init g c =
       ready = search (rules, arith);
       device = refl;
       low = omega arith;
-      survey = leaves_more _ c.forget_windows.new.self _ (windows_leave _ _ forgot) (grind (arith, filled_noted));
+      survey = leaves_more {b = c.forget_windows.new.self} (windows_leave _ _ forgot) (grind (arith, filled_noted));
       leaders = grind arith;
       reads = λ bytes k.
           let all = as_many _ _ (lines_begin v bytes c.args.workspace.now _ _ kinds reached k.1 k.2 c.first_unreached-first.result (omega arith)
@@ -91,12 +91,12 @@ loop-number-preserved g c =
       ready = ok.stays.can_read;
       device = ok.faults ∙ inv.device;
       low = omega arith;
-      survey = leaves_more _ _ _ inv.survey (windows_leave _ _ ok.stays.held);
+      survey = leaves_more inv.survey (windows_leave _ _ ok.stays.held);
       leaders = leaders_held _ _ ok.stays.held inv.leaders;
       reads = grind (arith, count_next);
-      said = of_part _ _ _ _ _ _ _ _ inv.said
+      said = of_part inv.said
           (λ bytes k. from_next (unref_dir_lines (volume_of v bytes)) n (inodes_of v) (omega arith))
-          (said_knows _ _ _ _ _ _ more ok.text);
+          (said_knows more ok.text);
       heading = heading_part _ _ (Ok tt) inv.heading ok.text;
       paid = paid_then inv.paid (paid_answer ok.paid);
     }

@@ -78,10 +78,10 @@ loop-number-preserved-then-skipped-eq0 g c =
       device = ok.faults ∙ inv.device;
       held = held_on c.args.workspace.now c.loop-number.workspace c.report_references.new.workspace inv.held ok.stays.held;
       reads = grind (arith, count_next);
-      said = of_part _ _ _ _ _ _ _ _ inv.said
+      said = of_part inv.said
           (λ bytes k. from_next (reference_lines_at (volume_of v bytes)) n (inodes_of v)
           (omega (arith, c.loop-number-test.true)))
-          (said_knows _ _ _ _ _ _ more ok.text);
+          (said_knows more ok.text);
       heading = heading_part _ _ (Ok tt) inv.heading ok.text;
       paid = paid_then inv.paid (paid_answer ok.paid);
     }

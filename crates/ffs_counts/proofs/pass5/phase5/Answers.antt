@@ -58,7 +58,7 @@ loop-group-init g c =
 pub returns-in_err-found-clause-text : goal.returns-in_err-found-clause-text
 returns-in_err-found-clause-text g c =
     let p = err_from_is_err_and c.from_residual-in_err-found.result c.from_residual-in_err-found.ensures.1 in
-    rw (p.1, p.2) (of_reads _ _ _ _ _ c.loop-group.invariant.said)
+    rw (p.1, p.2) (of_reads c.loop-group.invariant.said)
 
 pub returns-in_err-say_group-clause-text : goal.returns-in_err-say_group-clause-text
 returns-in_err-say_group-clause-text g c =
@@ -88,7 +88,7 @@ loop-group-preserved g c =
       totals = totals_next v (free_of v w) (class_in w.kinds.items) n c.loop-group.totals _ _ inv.totals c.add.ensures
           (counts_held v w c.loop-group.workspace c.deref.result.now n _ inv.stays.held c.deref.ensures.value
           counts.ensures.summary);
-      said = of_says _ _ _ _ _ _ _ _ inv.said
+      said = of_says inv.said
           (gone_on g (goal.at.loop-group-preserved g c).In_ok-found _ c.in_ok-say_group.ensures.reported)
           c.in_ok-say_group.ensures.said;
       heading = heading_then _ inv.heading c.in_ok-say_group.ensures.said;
@@ -102,7 +102,7 @@ returns-in_err-say_unless-clause-text g c =
     c.in_err-say_unless.ensures.said)
 
 pub returns-clause-text : goal.returns-clause-text
-returns-clause-text g c = of_says _ _ _ _ _ _ _ _ c.loop-group.invariant.said
+returns-clause-text g c = of_says c.loop-group.invariant.said
     (ended g (goal.at.returns-clause-text g c).After-agree_with-right) c.in_ok-say_unless.ensures.said
 
 pub returns-in_err-found-clause-reads : goal.returns-in_err-found-clause-reads

@@ -75,7 +75,7 @@ returns-in_err-looked g c =
     let left = looks.looks.leaves in
     let p = err_from_is_err_and c.from_residual.result c.from_residual.ensures.1 in
     rw (p.1, p.2) (record {
-      text = of_reads _ _ _ _ _ (of_begins _ _ _);
+      text = of_reads of_begins;
       reads = λ b k noted. omega (arith, looks.cost.reads b k.0);
       spends = λ b k. looks.cost.spends b k.0;
       paid = paid_failed looks.cost.most;
@@ -108,8 +108,8 @@ returns-in_err-report_header g c =
       leaves = record {
         image = image_same (Unit {0}) FirstLook _ _ _ c.in_err-report_header.field-0.0 looks.looks.leaves.read
             said.leaves.image;
-        survey = leaves_more _ _ _ lists.survey (windows_leave _ _ said.leaves.lists);
-        places = keep_more _ _ _ lists.places (windows_keep c.look_directory.new.workspace c.report_header.new.workspace
+        survey = leaves_more lists.survey (windows_leave _ _ said.leaves.lists);
+        places = keep_more lists.places (windows_keep c.look_directory.new.workspace c.report_header.new.workspace
             said.leaves.lists);
         ready = said.leaves.ready;
       };
@@ -132,8 +132,8 @@ returns g c =
           c.in_ok-looked.looked _ (looks.looks.found b k) lists said.leaves.lists;
       leaves = record {
         image = said.leaves.image ∙ looks.looks.leaves.read;
-        survey = leaves_more _ _ _ lists.survey (windows_leave _ _ said.leaves.lists);
-        places = keep_more _ _ _ lists.places (windows_keep c.look_directory.new.workspace c.report_header.new.workspace
+        survey = leaves_more lists.survey (windows_leave _ _ said.leaves.lists);
+        places = keep_more lists.places (windows_keep c.look_directory.new.workspace c.report_header.new.workspace
             said.leaves.lists);
         ready = said.leaves.ready;
       };

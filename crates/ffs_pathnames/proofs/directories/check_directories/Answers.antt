@@ -70,7 +70,7 @@ loop-number-init g c =
             (noted.places b (k.gives_bytes, k.claims, k.survey)).survey noted.leaves.none_due (skipped b k).0;
         noted = (noted.places b (k.gives_bytes, k.claims, k.survey)).noted;
       };
-      said = of_same _ all _ all _ _ (of_begins _ all _) (λ b k. (skipped b k).1);
+      said = of_same {rest = all} (of_begins {all = all}) (λ b k. (skipped b k).1);
     }
 
 pub loop-number-preserved : goal.loop-number-preserved
@@ -107,9 +107,9 @@ loop-number-preserved g c =
       before = λ b k. subst (λ d. IsBeforeNoted v (g.I.Image.device c.args.image.now).contents c.check_if_needed.new.workspace d
           b) q
           (noted_reported (sym (ap (λ d. d.contents) inv.device)) (ok.holds b (next g at b k)).0);
-      said = of_part _ _ _ _ _ _ _ _ inv.said
+      said = of_part inv.said
           (λ b k. from_next (directory_lines (volume_of v b)) n (inodes_of v) (omega arith))
-          (said_knows _ _ _ _ _ _ (next g at) ok.text);
+          (said_knows (next g at) ok.text);
     }
 
 -- what is said, what is read for it, and what is left
@@ -119,7 +119,7 @@ returns-then-first-count-clause-tree g c =
     let first = c.first_to_check-first in
     let all = λ (b : List ℕ). map of_tree (lines_from (directory_lines (volume_of v b)) 2 (inodes_of v - 2)) in
     record {
-      text = of_same _ all (λ b. []) _ _ _ (of_begins _ all _)
+      text = of_same {rest = all} {rest' = λ b. []} (of_begins {all = all})
           (λ b k. (unseen v _ _ b first.result (inodes_of v) c.args.geometry.now.sound first.ensures.range.0
           (omega (arith, first.ensures.range.1, c.inodes-count.ensures)) first.ensures.before k).1
           ∙ from_end (directory_lines (volume_of v b)) first.result (inodes_of v) (omega arith));
@@ -138,7 +138,7 @@ returns-in_err-note_places-clause-tree g c =
     let noted = c.in_err-note_places.ensures in
     let p = err_from_is_err_and c.from_residual.result c.from_residual.ensures.1 in
     rw (p.1, p.2) (record {
-      text = of_reads _ _ _ _ _ (of_begins _ _ _);
+      text = of_reads of_begins;
       reads = λ b k.
           let within = noted_all_within v b (v.ncg * v.ipg) in
           omega (arith, noted.reads.each b (k.gives_bytes, k.claims, k.survey), within);
@@ -193,7 +193,7 @@ returns-clause-tree g c =
     let v = c.args.geometry.now.layout in
     let inv = c.loop-number.invariant in
     record {
-      text = of_same _ _ (λ b. []) _ _ _ inv.said
+      text = of_same {rest' = λ b. []} inv.said
           (λ b k. from_end (directory_lines (volume_of v b)) c.loop-number.number (inodes_of v) (omega arith));
       reads = λ b k.
           let rise = costs_rise (λ s. true) (directory_cost v b) c.loop-number.number (inodes_of v) (omega arith) in

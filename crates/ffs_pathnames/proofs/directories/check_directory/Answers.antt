@@ -56,7 +56,7 @@ returns-in_err-looked-clause-lines g c =
     let left = begun.leaves in
     let p = err_from_is_err_and c.from_residual.result c.from_residual.ensures.1 in
     rw (p.1, p.2) (record {
-      text = of_fault FirstLook (Unit {0}) _ _ _ _ _ _ _ _ c.in_err-looked.field-0.0 (of_begins _ _ _)
+      text = of_fault FirstLook (Unit {0}) _ _ _ _ _ _ _ _ c.in_err-looked.field-0.0 of_begins
           (λ b k. lines_parts (volume_of c.args.geometry.now.layout b) c.args.dir _ refl)
           (reports_knowing FirstLook _ _ _ _ _ (Err c.in_err-looked.field-0.0) (λ b k. first k) begun.text);
       reads = λ b k noted.
@@ -112,7 +112,7 @@ returns-clause-lines g c =
     reported_parts (volume_of v b) c.args.dir before m (dir b k) k.passed (one.holds b (first k)).passed in
     record {
       text = of_last _ _ _ _ _ _ _ _ c.report_entries.result
-          (of_part _ _ _ _ _ _ _ _ (of_begins _ _ _) parts (said_knows _ _ _ _ _ _ (λ b k. first k) one.text))
+          (of_part of_begins parts (said_knows (λ b k. first k) one.text))
           (λ b k. refl) (reports_knowing _ _ _ _ _ _ c.report_entries.result second_of two.text);
       reads = λ b k noted.
           checked_twice line_reads _ _ _ (directory_cost v b c.args.dir) (directory_runs v b c.args.dir)
@@ -139,8 +139,8 @@ returns-clause-lines g c =
       leaves = record {
         image = subst (λ d. ImageAfter d (g.I.Image.device c.report_entries.new.image) c.report_entries.result)
             one.leaves.image two.leaves.image;
-        survey = leaves_more _ _ _ one.leaves.survey two.leaves.survey;
-        places = keep_more _ _ _ one.leaves.places two.leaves.places;
+        survey = leaves_more one.leaves.survey two.leaves.survey;
+        places = keep_more one.leaves.places two.leaves.places;
         ready = two.leaves.ready;
       };
     }

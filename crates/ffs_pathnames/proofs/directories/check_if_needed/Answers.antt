@@ -38,7 +38,7 @@ returns-clause-lines g c =
     let other = sym c.needs_check.ensures ∙ c.if-needs_check.false in
     let ready = c.requires.path in
     record {
-      text = of_same _ _ (λ b. []) _ _ _ (of_begins _ _ _) (λ b k. lines_skipped c.requires.low other k.0.before);
+      text = of_same {rest' = λ b. []} of_begins (λ b k. lines_skipped c.requires.low other k.0.before);
       reads = λ b k noted. omega arith;
       spends = λ b k. omega arith;
       paid = paid_none (omega arith);

@@ -48,7 +48,7 @@ entries-init g c = let all = c.of_chunk-entries.ensures in rw (all.0, all.1, all
   settled = λ settled. settled;
   once = λ b k noted. omega arith;
   passed = λ b k. refl;
-  said = of_begins _ _ _;
+  said = of_begins;
   counted = λ b k noted. has_begun _ _ _;
   paid = paid_none (omega arith);
 })
@@ -82,8 +82,8 @@ returns-in_err-report_entry g c =
       passed = tt;
       leaves = record {
         image = image_same (Unit {0}) (Unit {0}) _ _ _ c.in_err-report_entry.field-0.0 inv.device left.image;
-        survey = leaves_more _ _ _ inv.survey left.survey;
-        places = keep_more _ _ _ inv.places left.places;
+        survey = leaves_more inv.survey left.survey;
+        places = keep_more inv.places left.places;
         ready = left.ready;
       };
       current = c.in_err-report_entry.ensures.current ∙ inv.current;
@@ -100,8 +100,8 @@ entries-preserved g c =
     record {
       ready = ok.leaves.ready;
       device = ok.leaves.image ∙ inv.device;
-      survey = leaves_more _ _ _ inv.survey ok.leaves.survey;
-      places = keep_more _ _ _ inv.places ok.leaves.places;
+      survey = leaves_more inv.survey ok.leaves.survey;
+      places = keep_more inv.places ok.leaves.places;
       current = ok.current ∙ inv.current;
       path = λ b k. ok.lines.path b (know_path g at b k);
       settled = λ settled. ok.lines.settled (inv.settled settled);
@@ -110,9 +110,9 @@ entries-preserved g c =
           let long = entry_counted (volume_of v b) x.dir m _ _ _ (next g at) (ok.passed b (know g at b k)) in
           omega (arith, inv.once b k noted, here, long);
       passed = λ b k. entry_passed (volume_of v b) x.dir m (next g at) (ok.passed b (know g at b k)) (inv.passed b k);
-      said = of_part _ _ _ _ _ _ _ _ inv.said
+      said = of_part inv.said
           (λ b k. entry_reported (volume_of v b) x.dir m _ _ _ (next g at) (ok.passed b (know g at b k.knows)))
-          (said_knows _ _ _ _ _ _ (know_path g at) ok.lines.text);
+          (said_knows (know_path g at) ok.lines.text);
       counted = λ b k noted. read_more _ _ (inv.counted b k noted)
           (entry_counted (volume_of v b) x.dir m _ _ _ (next g at) (ok.passed b (know g at b k)))
           (ok.lines.counted b (know g at b k) (noted_kept v b _ _ inv.places noted));
@@ -128,7 +128,7 @@ returns g c =
     let end = roled_end x.at_start c.entries.entries c.in_default.ensures.steps.0 in
     record {
       lines = record {
-        text = of_same _ _ (λ b. []) _ _ _ inv.said
+        text = of_same {rest' = λ b. []} inv.said
             (λ b k. ap (λ es. map of_tree (entries_reported (volume_of v b) x.dir m es)) end);
         path = inv.path;
         settled = inv.settled;

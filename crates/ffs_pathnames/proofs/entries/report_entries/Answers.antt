@@ -41,7 +41,7 @@ abbrev between : (g : Over) → After-next_chunk g → Workspace
 between g c = record c.chunks.workspace { windows = c.next_chunk.new.windows }
 
 kept_between : (g : Over) (c : After-next_chunk g) → LeavesSurvey c.args.workspace.now (between g c)
-kept_between g c = leaves_more _ _ _ c.chunks.invariant.survey (windows_leave c.chunks.workspace (between g c) refl)
+kept_between g c = leaves_more c.chunks.invariant.survey (windows_leave c.chunks.workspace (between g c) refl)
 
 -- what is known there
 know : (g : Over) (c : After-next_chunk g) → g.I.Image.device c.next_chunk.new.image ≡ g.I.Image.device c.chunks.image →
@@ -81,7 +81,7 @@ chunks-init g c =
       paid = paid_none (omega arith);
       path = λ b k settled. absurd (both_ways _ refl settled);
       passed = λ b k. ap (after_entries (volume_of v b) x.number m) (sym (seen b k));
-      said = of_same _ _ _ _ _ _ (of_begins _ _ _) lines;
+      said = of_same of_begins lines;
     }
 
 pub next_chunk-requires : goal.next_chunk-requires
@@ -113,8 +113,8 @@ chunks-preserved g c =
       ready = ok.leaves.ready;
       device = ok.leaves.image ∙ (read.leaves.read ∙ inv.device);
       geometry = read.leaves.geometry ∙ inv.geometry;
-      survey = leaves_more _ _ _ (kept_between g at) ok.leaves.survey;
-      places = keep_more _ _ _ inv.places ok.leaves.places;
+      survey = leaves_more (kept_between g at) ok.leaves.survey;
+      places = keep_more inv.places ok.leaves.places;
       held = λ b k noted.
           let took = read.takes.reads (inv.held b k noted) b (now g at b k) (enough g at b k) in
           let few = c.report_chunk.ensures.lines.counted b (known b k)
@@ -142,10 +142,10 @@ chunks-preserved g c =
           paid_then looked (paid_beside c.next_chunk.new.reads_left ok.lines.paid);
       path = λ b k. c.report_chunk.ensures.lines.path b (record { knows = known b k; path = inv.path b k });
       passed = λ b k. chunk_passed (volume_of v b) x.number m (next b k) (ok.passed b (known b k)) (inv.passed b k);
-      said = of_part _ _ _ _ _ _ _ _ inv.said
+      said = of_part inv.said
           (λ b k. chunk_reported (volume_of v b) x.number m chunk _ _
           (next b k) (ok.passed b (known b k)))
-          (said_knows _ _ _ _ _ _ (λ b k. record
+          (said_knows (λ b k. record
           { knows = known b k; path = inv.path b k }) ok.lines.text);
     }
 
@@ -165,7 +165,7 @@ returns-in_err-offset-clause-lines g c =
     let read = c.in_err-offset.ensures in
     let p = err_from_is_err_and c.from_residual.result c.from_residual.ensures.1 in
     rw (p.1, p.2) (record {
-      text = of_reads _ _ _ _ _ inv.said;
+      text = of_reads inv.said;
       reads = λ b k noted.
           let most = (read.takes.reads (inv.held b k noted) b (now g at b k) (enough g at b k)).most in
           omega (arith, most, inv.reads b k noted);
@@ -220,8 +220,8 @@ returns-in_err-report_chunk-clause-lines g c =
       holds = tt;
       leaves = record {
         image = image_same (Unit {0}) (Unit {0}) _ _ _ fault (read.leaves.read ∙ inv.device) left.image;
-        survey = leaves_more _ _ _ (kept_between g at) left.survey;
-        places = keep_more _ _ _ inv.places left.places;
+        survey = leaves_more (kept_between g at) left.survey;
+        places = keep_more inv.places left.places;
         ready = left.ready;
       };
     })
@@ -237,7 +237,7 @@ returns-clause-lines g c =
     let came = rw c.in_default.is at read.chunk in
     let none = λ (b : List ℕ) (k : Known g at b). (came.chunk (held g at b k) b (now g at b k) (enough g at b k)).chunks.0 in
     record {
-      text = of_same _ _ (λ b. []) _ _ _ inv.said
+      text = of_same {rest' = λ b. []} inv.said
           (λ b k. ap (λ cs. map of_tree (entries_reported (volume_of v b) x.number m (flat_map roled_chunk cs)))
           (none b k));
       reads = λ b k noted.

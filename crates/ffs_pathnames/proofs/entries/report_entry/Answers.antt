@@ -62,8 +62,8 @@ returns g c =
           refl refl;
       leaves = record {
         image = left.image;
-        survey = leaves_more _ _ _ kept surveyed;
-        places = keep_more _ _ _ (windows_keep before here left.lists) passed.words.places;
+        survey = leaves_more kept surveyed;
+        places = keep_more (windows_keep before here left.lists) passed.words.places;
         ready = record {
           ready = ready_passed _ _ here _ _ left.ready.ready passed.flags passed.words.long;
           kept_parent = kept_parent_on _ _ _ _ _ _ refl surveyed passed.words.places left.ready.kept_parent;

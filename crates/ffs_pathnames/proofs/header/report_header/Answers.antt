@@ -63,7 +63,7 @@ returns-in_err-put_path g c =
     let read = left.path.reads in
     let p = err_from_is_err_and c.from_residual.result c.from_residual.ensures.1 in
     rw (p.1, p.2) (record {
-      text = of_reads _ _ _ _ _ (of_begins _ _ _);
+      text = of_reads of_begins;
       counted = λ b k noted. by_line _ (few_more (left.path.counted b (knows_places _ _ _ _ b k.0 noted)) (omega arith)) (some_line g at b);
       paid = let most = left.most in paid_reads (omega (arith, most));
       leaves = record { image = read.read; lists = read.lists; current = read.current; ready = read.ready };
@@ -76,7 +76,7 @@ returns-in_err-say_header g c =
     let read = left.path.reads in
     let p = err_from_is_err_and c.from_residual-in_err-say_header.result c.from_residual-in_err-say_header.ensures.1 in
     rw (p.1, p.2) (record {
-      text = of_stops _ _ (λ b. []) _ _ _ _ _ (of_begins _ _ _) (lines_are g at.After-say_header)
+      text = of_stops _ _ (λ b. []) _ _ _ _ _ of_begins (lines_are g at.After-say_header)
           c.in_err-say_header.ensures;
       counted = λ b k noted. by_line _ (few_more (left.path.counted b (knows_places _ _ _ _ b k.0 noted)) (omega arith))
           (some_line g at.After-put_path b);
@@ -91,7 +91,7 @@ returns g c =
     let left = c.in_ok-put_path.ensures.puts.leaves in
     let read = left.path.reads in
     record {
-      text = of_says _ _ (λ b. []) _ _ _ _ _ (of_begins _ _ _) (lines_are g at.After-say_header)
+      text = of_says {rest' = λ b. []} of_begins (lines_are g at.After-say_header)
           c.in_ok-say_header.ensures;
       counted = λ b k noted. by_line _ (few_more (left.path.counted b (knows_places _ _ _ _ b k.0 noted)) (omega arith))
           (some_line g at.After-put_path b);

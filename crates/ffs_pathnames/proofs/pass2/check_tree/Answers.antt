@@ -101,13 +101,13 @@ pub returns-in_err-report_root-clause-tree : goal.returns-in_err-report_root-cla
 returns-in_err-report_root-clause-tree g c =
     let at = (goal.at.returns-in_err-report_root-clause-tree g c).After-report_root in
     let p = err_from_is_err_and c.from_residual.result c.from_residual.ensures.1 in
-    rw (p.1, p.2) (only_said _ refl c.requires (of_stops _ _ _ _ _ _ _ _ (of_begins _ _ _)
+    rw (p.1, p.2) (only_said _ refl c.requires (of_stops _ _ _ _ _ _ _ _ of_begins
     (λ b k. lines_are g at b _ k.claims refl) c.in_err-report_root.ensures))
 
 pub returns-in-Stop-clause-tree : goal.returns-in-Stop-clause-tree
 returns-in-Stop-clause-tree g c =
     let at = (goal.at.returns-in-Stop-clause-tree g c).After-report_root in
-    only_said _ refl c.requires (of_says _ _ (λ b. []) _ _ _ _ _ (of_begins _ _ _)
+    only_said _ refl c.requires (of_says {rest' = λ b. []} of_begins
     (λ b k. lines_are g at b false k.claims c.in-Stop.ensures) c.in_ok-report_root.ensures)
 
 pub returns-in_err-check_directories-in-Go-clause-tree : goal.returns-in_err-check_directories-in-Go-clause-tree
@@ -119,7 +119,7 @@ returns-in_err-check_directories-in-Go-clause-tree g c =
     c.from_residual-in_err-check_directories-in-Go.ensures.1 in
     rw (p.1, p.2) (record {
       text = of_fault (Unit {0}) (Unit {0}) _ _ _ (λ b. []) _ _ _ _ fault
-          (of_says _ _ _ _ _ _ _ _ (of_begins _ _ _)
+          (of_says of_begins
           (λ b k. lines_are g at.After-report_root b true k.claims c.in-Go.ensures) c.in_ok-report_root.ensures)
           (λ b k. sym (append-nil _)) tree.text;
       reads = λ b k. reads_few g at.After-check_directories b
@@ -139,8 +139,8 @@ returns-in_ok-check_directories-in-Go-clause-tree g c =
     let at = goal.at.returns-in_ok-check_directories-in-Go-clause-tree g c in
     let tree = c.in_ok-check_directories-in-Go.ensures.tree in
     record {
-      text = of_part _ _ _ (λ b. []) _ _ _ _
-          (of_says _ _ _ _ _ _ _ _ (of_begins _ _ _)
+      text = of_part {rest' = λ b. []}
+          (of_says of_begins
           (λ b k. lines_are g at.After-report_root b true k.claims c.in-Go.ensures) c.in_ok-report_root.ensures)
           (λ b k. sym (append-nil _)) tree.text;
       reads = λ b k. reads_few g at.After-check_directories b

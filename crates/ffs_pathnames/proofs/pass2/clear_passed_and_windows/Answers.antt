@@ -13,7 +13,7 @@ returns c =
     let marked : mid.marked ≡ old.marked = ap (λ (w : Workspace). w.marked) forgot in
     let flags : mid.flags ≡ old.flags = ap (λ (w : Workspace). w.flags) forgot in
     record {
-      survey = leaves_more old mid _ (windows_leave old mid forgot) (search rules);
+      survey = leaves_more {b = mid} (windows_leave old mid forgot) (search rules);
       flags = λ x. rw (← kinds, ← marked, ← flags) (search (rules, with_items_is));
       stamps = λ x. none_stamped _ _ x
           (none_due _ x (ap (λ (w : Workspace). slice_index w.queue.items x) forgot ∙ c.requires.unnoted x));

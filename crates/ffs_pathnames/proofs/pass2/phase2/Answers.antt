@@ -102,7 +102,7 @@ returns-in_err-survey-clause-ends g c = grind arith
 pub returns-in_err-survey-clause-text : goal.returns-in_err-survey-clause-text
 returns-in_err-survey-clause-text g c =
     let p = err_from_is_err_and c.from_residual-in_err-survey.result c.from_residual-in_err-survey.ensures.1 in
-    rw (p.1, p.2) (of_reads _ _ _ _ _ (says_heading (λ b k. refl) c.in_ok-say.ensures.said))
+    rw (p.1, p.2) (of_reads (says_heading (λ b k. refl) c.in_ok-say.ensures.said))
 
 pub returns-clause-text : goal.returns-clause-text
 returns-clause-text g c =
