@@ -3,7 +3,8 @@
 //!
 //! `phase1` and `phase1b` print the block check's text, and leave kinds, claims, notes and marks in
 //! the workspace. `phase1` looks at no more than `runs_limit` Runs (`Report/Memory`), whatever the
-//! image holds, and `phase1b` at no more than it did, where the image gives its bytes.
+//! image holds, and `phase1b` at no more than it did, where the image gives its bytes and the
+//! workspace holds what phase 1 noted of them.
 //!
 //! ```text
 //! phase1(&geometry, &mut image, &mut workspace, &mut report)?;

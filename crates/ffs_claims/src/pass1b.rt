@@ -155,9 +155,7 @@ fn phase1b_unlimited<I: Image, W: Output>(
 /// kept offer reported: by a DUP line for the first inode that keeps an offer of it.
 ///
 /// The contract gives the text for a workspace as phase 1 left it, and after a fault once more:
-/// what is left is reported then. No more reads are made than those of a sweep (`sweep_reads`):
-/// where an image that gives other bytes each time asks for more, it ends there with `Ok`, and what
-/// is left isn't reported.
+/// what is left is reported then. No more reads are made than those of a sweep (`sweep_reads`).
 ///
 /// # Errors
 /// A read of the image that failed, and a write of the report that failed.
@@ -195,7 +193,8 @@ pub fn phase1b<I: Image, W: Output>(
     let mut limited = LimitedImage::new(image, sweep_reads(geometry));
     let scanned = phase1b_unlimited(geometry, &mut limited, workspace, report);
     if limited.is_spent() {
-        // See `LimitedImage`: bytes that stay never ask for so many reads.
+        // See `LimitedImage`: bytes that stay never ask for so many reads. Of others what is left
+        // isn't reported.
         return Ok(());
     }
     scanned

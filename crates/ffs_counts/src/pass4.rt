@@ -49,7 +49,7 @@ fn is_right(workspace: &Workspace, number: u32) -> bool
 /// that the machine takes at once (SPEED.md).
 const UNALLOCATED_AT_ONCE: usize = 64;
 
-/// Whether one of the inodes of some kinds is allocated: a loop without exit.
+/// False only where none of the inodes of some kinds is allocated: a loop without exit.
 #[inline(always)]
 fn any_allocated(kinds: &[u8]) -> bool
     ensures { result ≡ false → AreUnallocated kinds.now }
@@ -85,7 +85,8 @@ fn unallocated_from(kinds: &[u8], first: usize) -> usize
 /// How many allocated inodes are passed over at once: as many as unallocated ones.
 const RIGHT_AT_ONCE: usize = 64;
 
-/// Whether one of `RIGHT_AT_ONCE` inodes isn't allocated, or is suspect: a loop without exit.
+/// False only where none of `RIGHT_AT_ONCE` inodes is suspect: a loop without exit. Where one isn't
+/// allocated it is true too, so that their counts, eight times as long, aren't looked at.
 #[inline(always)]
 fn any_free_or_suspect(kinds: &[u8], marked: &FilledList<bool>, first: usize) -> bool
     requires { (first + RIGHT_AT_ONCE ≤ length kinds.now)
@@ -109,7 +110,7 @@ fn any_free_or_suspect(kinds: &[u8], marked: &FilledList<bool>, first: usize) ->
     free | empty
 }
 
-/// Whether one of some counts of references isn't `LINKS_MET`: a loop without exit.
+/// False only where each of some counts of references is `LINKS_MET`: a loop without exit.
 #[inline(always)]
 fn any_unmet(counts: &[u64]) -> bool
     ensures { result ≡ false → (k : ℕ) → k < length counts.now

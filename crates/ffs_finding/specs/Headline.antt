@@ -109,8 +109,8 @@ FindFailsAt (Err (Failed (Read fault))) P = P fault.sector
 FindFailsAt (Err (Failed (Out fault))) P = ⊤
 FindFailsAt (Err NoMemory) P = ⊤
 
--- a target was found in a volume with this accepted superblock: what was printed, where a read failed, and how often
--- the image was read
+-- a target was looked for in a volume with this accepted superblock: what was printed, where a read failed, and
+-- how often the image was read
 pub record FindsTarget (target : Target) (sector : Option ℕ) (s : Superblock) (old new : Moment)
     (result : Result Bool FindFault) : Type 0 where
   pub answer : TargetAnswers target sector s old new result
@@ -256,7 +256,7 @@ ReadsForCommand Copies d before after = ReadsCopies d before after
 ReadsForCommand (InVolume target sector) d before after =
     (after ≤ before + opening_reads) ⊎ ReadsVolume target sector d before after
 
--- what a command asks for was found; the line of a fault is still to come
+-- a command was carried out; the line of a fault is still to come
 pub record AnswersCommand (command : Command) (old new : Moment) (before after : Account)
     (result : Result Bool FindFault) : Type 0 where
   pub answers : Answers command old new before after result
@@ -264,7 +264,7 @@ pub record AnswersCommand (command : Command) (old new : Moment) (before after :
   pub memory : TakesMemory command old.image before after
   pub reads : ReadsForCommand command old.image old.reads new.reads
 
--- what a command asks for was found: what was printed and the status, what was taken of the memory,
+-- a command was carried out: what was printed and the status, what was taken of the memory,
 -- and how often the image was read
 pub record FindsCommand (command : Command) (old new : Moment) (before after : Account) (status : ℕ) : Type 0 where
   pub ends : FindEnds command old new before after status

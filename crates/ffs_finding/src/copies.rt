@@ -148,7 +148,8 @@ fn sectors_end(size: u64) -> u32
 
 /// Prints the sectors at which `-b` is accepted, in ascending order, each with its order of bytes,
 /// sizes of blocks and fragments in bytes, size in fragments, and whether it is the primary
-/// superblock or the copy of a group (fs(5)). The window has 65,536 bytes, also afterwards.
+/// superblock or the copy of a group (fs(5)). The window has 65,536 bytes, also afterwards. The
+/// image is read once for each 65,536 bytes at most, and once more for each magic number.
 ///
 /// # Errors
 /// A read of the image that failed, and a write that failed.

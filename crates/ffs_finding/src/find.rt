@@ -72,7 +72,8 @@ pub fn find_in<M: Memory, I: Image, W: Output>(
     end(answer, out)
 }
 
-/// Finds in an image what a command asks for, and prints it, but for the line of a fault.
+/// Finds in an image what a command asks for, and prints it, but for the line of a fault. Returns
+/// whether a defect was found.
 ///
 /// # Errors
 /// The superblock is refused, a read of the image or a write failed, or the memory was refused.
@@ -92,7 +93,7 @@ fn find<M: Memory, I: Image, W: Output>(
     }
 }
 
-/// Takes a window, and finds copies of the superblock.
+/// Takes a window, and finds copies of the superblock, none of which is a defect.
 fn find_copies_by_window<M: Memory, I: Image, W: Output>(
     memory: &mut M,
     image: &mut I,
@@ -108,7 +109,7 @@ fn find_copies_by_window<M: Memory, I: Image, W: Output>(
 }
 
 /// Reads the superblock at the sector that is asked for, or at the usual place, and finds the
-/// target in its volume.
+/// target in its volume. Returns whether a defect was found.
 fn find_in_volume<M: Memory, I: Image, W: Output>(
     memory: &mut M,
     image: &mut I,

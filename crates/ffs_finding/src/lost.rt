@@ -190,8 +190,11 @@ fn find_wrong<I: Image, W: Output>(
 
 /// Prints the fragments that the maps of the groups mark as used and that are neither reserved nor
 /// claimed, as ascending ranges, and a line for each group that has no map. Then those that are
-/// reserved or claimed and marked as free. Returns whether there was a line. The workspace is left
-/// ready, and all of it but its windows as it was: more can be found in it.
+/// reserved or claimed and marked as free. Returns whether there was a line.
+///
+/// The contract gives the lines only for a workspace that holds what phase 1 found of blocks, also
+/// where later phases ran in it. It is left ready, and all of it but its windows as it was: more
+/// can be found in it. Each group's block is read at most twice.
 ///
 /// # Errors
 /// A read of the image that failed, and a write that failed.

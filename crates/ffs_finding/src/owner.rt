@@ -331,7 +331,7 @@ fn find_keepers_unlimited<I: Image, W: Output>(
 }
 
 /// Prints a line for each kept offer of the fragment. No more reads are made than those of a sweep
-/// (`sweep_reads`): where an image that gives other bytes each time asks for more, it ends there.
+/// (`sweep_reads`).
 fn find_keepers<I: Image, W: Output>(
     geometry: &Geometry,
     image: &mut I,

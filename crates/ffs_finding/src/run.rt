@@ -54,9 +54,9 @@ impl Program for Find {
 /// found, 2 where the words are wrong, or 8 where it didn't run to its end. `words` are
 /// those after the program's name.
 ///
-/// What is found goes to `out`, which is flushed; a failed flush is status 8, as a failed write is.
-/// Only the text for wrong words, and that of the help and the version, goes to `errors`: nothing
-/// is printed to `out` then.
+/// What is found goes to `out`, which is flushed after it; a failed flush is status 8, as a failed
+/// write is. Only the text for wrong words, and that of the help and the version, goes to `errors`:
+/// nothing is printed to `out` or flushed then.
 pub fn run<Y: System, S: Outlet, E: Outlet>(
     system: &mut Y,
     alloc: Global,

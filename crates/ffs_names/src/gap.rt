@@ -7,7 +7,7 @@ use crate::chunks::Chunks;
 use ffs_image::{Image, ImageFault};
 use ffs_walk::{Blocks, Walk};
 
-/// Whether no step is left of a walk.
+/// True only where no step is left of a walk.
 #[inline(always)]
 fn is_over(walk: &Walk) -> bool
     ensures { IsTrue result → IsOver walk.now }

@@ -254,8 +254,7 @@ fn note_places_unlimited<I: Image>(
 /// Notes in `queue`, of each directory that is reached from the root, where its parent entry is in
 /// the image (`ffs_workspace::word_of_part`): then a path takes one read for each of its
 /// directories. Each of their parents is read once. Afterwards no parent entry is due. The windows
-/// change too. Only an image that gives other bytes each time asks for more reads than a sweep has:
-/// then no place is noted.
+/// change too. No more reads are made than those of a sweep (`sweep_reads`).
 ///
 /// # Errors
 /// A read of the image that failed. Each place that is noted is right then too, so what the survey
@@ -287,8 +286,9 @@ pub fn note_places<I: Image>(
     let mut limited = LimitedImage::new(image, sweep_reads(geometry));
     let noted = note_places_unlimited(geometry, &mut limited, workspace);
     if limited.is_spent() {
-        // See `LimitedImage`: bytes that stay never ask for so many reads. The words of some
-        // directories may still have the bit that says that their chunks are to be read.
+        // See `LimitedImage`: bytes that stay never ask for so many reads. Of others no place is
+        // noted: the words of some directories may still have the bit that says that their chunks
+        // are to be read.
         workspace.queue.fill(0);
         return Ok(());
     }

@@ -70,8 +70,7 @@ fn survey_unlimited<I: Image>(
 /// A second survey of the workspace, also after later phases, reads nothing and counts no reference
 /// again: what the first one found is there still. It flags no directory.
 ///
-/// Only an image that gives other bytes each time asks for more reads than a sweep has. The survey
-/// ends there with no fault, and doesn't count as made.
+/// No more reads are made than those of a sweep (`sweep_reads`).
 ///
 /// # Errors
 /// A read of the image that failed.

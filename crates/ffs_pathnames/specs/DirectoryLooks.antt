@@ -16,7 +16,7 @@ pub record LeavesAllButDue (old new : Workspace) : Type 0 where
   pub places : KeepParts old.queue.items new.queue.items
 
 -- what the first look at a directory leaves: the image, but for a read that failed, and all of the
--- workspace but which words are due
+-- workspace but its windows and which words are due
 pub record LookLeaves {T : Type 0} (v : Layout) (old new : WorkMoment) (result : Result T ImageFault) :
     Type 0 where
   pub lists : LeavesAllButDue old.workspace new.workspace
@@ -44,8 +44,8 @@ abbrev pub StampsOwn : Layout → (b : List ℕ) → (dir : ℕ) → (old new : 
 StampsOwn v b dir old new = (passed_of new).stamps
     ≡ after_looks (volume_of v b) dir (passed_of old).stamps (roled_entries (volume_of v b) dir)
 
--- a look at a directory finds what `finds` says, by what is known of the bytes, and leaves all but which
--- words are due
+-- a look at a directory finds what `finds` says, by what is known of the bytes, and leaves all but the
+-- windows and which words are due
 pub record LooksAt {T : Type 0} (v : Layout) (knows : List ℕ → Type 0) (finds : T → List ℕ → Type 0)
     (old new : WorkMoment) (result : Result T ImageFault) : Type 0 where
   pub found : IfOk result (λ x. ForBytes knows (finds x))

@@ -22,8 +22,7 @@ use ffs_volume::Attr;
 use ffs_volume::constants::{DIRBLKSIZ, DT_DIR, ROOTINO};
 use ffs_workspace::{Workspace, sweep_reads};
 
-/// Says the lines of each directory and of its entries, in the order of inode numbers. The places
-/// of parent entries are noted first, for the paths, where any directory is checked.
+/// Says the lines of each directory and of its entries, in the order of inode numbers.
 ///
 /// # Errors
 /// A read of the image that failed, and a write of the report that failed.

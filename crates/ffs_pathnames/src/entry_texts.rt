@@ -69,11 +69,9 @@ fn make_path_unlimited<I: Image>(
     Ok(())
 }
 
-/// Makes the path of a directory for the lines on its entries. An image that gives other bytes each
-/// time may be read more often than a path reads at most: then no more is read, and the path that
-/// was there before stays, for all lines of the directory. It is apart from `make_path_once`, which
-/// is called for each line: a function clears the room of its locals each time that it is entered,
-/// and those here are large.
+/// Makes the path of a directory for the lines on its entries. No more is read than a path reads at
+/// most. It is apart from `make_path_once`, which is called for each line: a function clears the
+/// room of its locals each time that it is entered, and those here are large.
 #[inline(never)]
 fn make_path<I: Image>(
     geometry: &Geometry,
@@ -92,7 +90,8 @@ fn make_path<I: Image>(
     let mut limited = LimitedImage::new(image, PATH_READS);
     let result = make_path_unlimited(geometry, &mut limited, workspace, texts, dir);
     if limited.is_spent() {
-        // See `LimitedImage`: bytes that stay never ask for so many reads.
+        // See `LimitedImage`: bytes that stay never ask for so many reads. Of others the path that
+        // was there before stays, for all lines of the directory.
         forget_parent(&mut texts.kept_parent);
         texts.path_settled = true;
         return Ok(());

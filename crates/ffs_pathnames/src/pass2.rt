@@ -122,7 +122,7 @@ fn clear_passed_and_windows(workspace: &mut Workspace)
     clear_suspects(&inodes, &mut workspace.flags);
 }
 
-/// Whether an inode is suspect: a loop without exit, and mostly none is.
+/// False only where no inode is suspect: a loop without exit, and mostly none is.
 fn any_suspect(inodes: &Inodes<'_>) -> bool
     ensures { result ≡ false → (x : ℕ)
         → suspect_at inodes.now.kinds.now inodes.now.marked.now.items x ≡ false }

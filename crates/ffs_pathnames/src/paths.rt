@@ -19,8 +19,7 @@ pub fn forget_parent(kept_parent: &mut KeptParent)
     kept_parent.child = 0;
 }
 
-/// Writes the path of a directory. An image that gives other bytes each time may be read more often
-/// than a path reads at most: then no more is read, and the text stays.
+/// Writes the path of a directory. No more is read than a path reads at most.
 ///
 /// # Errors
 /// A read of the image that failed.
@@ -42,7 +41,7 @@ pub fn put_path<I: Image>(
     let mut limited = LimitedImage::new(image, PATH_READS);
     let result = kept_parent.put_path(geometry, &mut limited, workspace, dir, path);
     if limited.is_spent() {
-        // See `LimitedImage`: bytes that stay never ask for so many reads.
+        // See `LimitedImage`: bytes that stay never ask for so many reads. Of others the text stays.
         forget_parent(kept_parent);
         return Ok(());
     }

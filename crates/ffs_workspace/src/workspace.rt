@@ -37,7 +37,8 @@ pub struct Workspace {
     /// The fragments with a DUP line. Phase 1b clears each of which it has reported the first kept
     /// offer.
     pub duplicates: FragmentMap,
-    /// Whether the last phase 1 that ended with `Ok` printed a DUP line. No later phase changes it.
+    /// Whether fragments had a DUP line when a phase 1 ended with `Ok` last: in a new workspace,
+    /// whether it printed one. No later phase changes it.
     pub has_dups: bool,
     /// What each inode is (`Kind`).
     pub kinds: FixedList<u8>,
@@ -60,8 +61,8 @@ pub struct Workspace {
     pub flags: FilledList<bool>,
     /// How many entries refer to each inode, counted on from `links_start`.
     pub references: FilledList<u64>,
-    /// Whether the survey is made. Until then each count of `references` is where it starts; a
-    /// survey that a read cut short leaves them between, and no later call finds them right.
+    /// Whether the survey is made. Before the first one each count of `references` is where it
+    /// starts; one that a read cut short leaves them between, and no later call finds them right.
     pub surveyed: bool,
     /// What is noted of each inode (`note_of`): how many offers it keeps, if its eleventh dup offer
     /// cut it; if not, 2^31 + 128 plus the address of its chunk for a directory of one; else 0.
@@ -81,7 +82,7 @@ pub struct Workspace {
     ///          it
     /// ```
     ///
-    /// The survey, and phase 3 after its walks, leave all of them at 0.
+    /// The survey leaves all of them at 0; after phase 3 they note no place.
     pub queue: FilledList<u32>,
     /// How many Runs phase 1 has looked at. It is counted for its bound, which is proved: nothing
     /// is decided by it.
@@ -110,7 +111,7 @@ impl Workspace {
     /// Takes all memory of a check of the volume from an allocator, and holds nothing yet.
     ///
     /// # Errors
-    /// The memory was refused. What was granted before is freed.
+    /// The memory was refused.
     #[tactic(auto, using(ffs_memory::proofs::Asking::of_system))]
     pub fn new(alloc: Global, geometry: &Geometry) -> Result<Workspace, AllocError>
         ensures new { IfOk result (IsNew geometry.now.layout) }
@@ -124,7 +125,7 @@ impl Workspace {
     /// Takes all memory of a check of the volume, and holds nothing yet.
     ///
     /// # Errors
-    /// The memory was refused. What was granted before is freed.
+    /// The memory was refused.
     #[tactic(auto, using(crate::proofs::Requests::refusals))]
     pub fn in_memory<M: Memory>(
         memory: &mut M,
@@ -193,7 +194,7 @@ impl Workspace {
         self.windows.other.length = 0;
     }
 
-    /// How many bytes its lists and buffers take.
+    /// How many bytes its maps, lists and buffers take.
     pub fn held(&self) -> u64
         requires { (geometry : Geometry) × IsFor geometry.layout self.now }
         ensures { (v : Layout) → IsFor v self.now → (result ≡ held_of v) × (result ≤ held_limit v) }
@@ -213,9 +214,9 @@ impl Workspace {
         maps + lists + buffers as u64
     }
 
-    /// Whether a phase 1 that ended with `Ok` printed a DUP line: so that phase 1b is to run
-    /// (fsck(8)). It is false before that. A phase 1 that failed leaves the answer as it was, and
-    /// so do the later phases.
+    /// Whether fragments had a DUP line when a phase 1 ended with `Ok` last, so that phase 1b is to
+    /// run (fsck(8)): in a new workspace, whether it printed one. It is false before that. A phase 1
+    /// that failed leaves the answer as it was, and so do the later phases.
     pub fn has_dups(&self) -> bool
         ensures { result ≡ self.now.has_dups }
     {

@@ -17,12 +17,13 @@ pub record IsConsistent (image : List ℕ) (s : Superblock) : Type 0 where
   pub settings : AreSettingsRight s
   -- each inode is free, a file or a directory
   pub classes : list_all (λ o. is_right_class o.class) (owners_of s.layout image) ≡ true
-  -- each Run is in range, no fragment is reserved or used twice, there is no Tail, and each blocks
-  -- field is right
+  -- each Run is in range, none has a reserved fragment, no fragment is used twice, there is no Tail,
+  -- and each blocks field is right
   pub runs : AreRunsRight s.layout (owners_of s.layout image)
   -- inode 2 is a directory, and each directory holds what it should
   pub dirs : AreDirsRight (whole_volume s.layout image)
-  -- each directory but the root is named by exactly one plain entry, is reached, and has the right `..`
+  -- no plain entry names the root, and its `..` is the root; each other directory is named by exactly one plain
+  -- entry, is reached, and has the right `..`
   pub links : AreLinksRight (whole_volume s.layout image)
   -- each count of links is that of the references
   pub counts : AreCountsRight (whole_volume s.layout image)
