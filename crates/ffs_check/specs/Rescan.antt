@@ -5,7 +5,8 @@ use Rattle.ffs_image.specs.Device.{Device}
 use Rattle.ffs_report.specs.declared.fault.RunFault.{RunFault}
 use Rattle.ffs_image.specs.Known.{ForBytes, IsContents}
 use Rattle.ffs_volume.specs.{declared.Layout.Layout, Blocks.Owners.owners_of}
-use Rattle.ffs_volume.specs.{Blocks.BlockCheck.{has_rescan, rescan_runs}}
+use Rattle.ffs_volume.specs.Blocks.BlockCheck.{has_rescan}
+use Rattle.ffs_volume.specs.Costs.RescanRuns.{rescan_runs}
 use Rattle.ffs_volume.specs.{Report.Reads.sweep_reads}
 use Rattle.ffs_volume.specs.{Report.Whole.run_count, Costs.VolumeReads.rescan_reads}
 use Rattle.ffs_workspace.specs.{declared.workspace.Workspace.Workspace, Holds.HoldsBlockCheck, Ready.IsReady}

@@ -12,8 +12,9 @@ use Rattle.ffs_volume.specs.{Blocks.{KeptOffers.kept_in_steps, Owners.{Owner}}, 
 use Rattle.ffs_volume.specs.Encodings.Replay.{is_replay_open, fresh_replay, cut_of, replay_after_step}
 use Rattle.ffs_volume.specs.{Encodings.ReplayCounts.{seen_run, replay_step_by_cut}, Report.Whole.run_count}
 use Rattle.ffs_volume.specs.declared.{Layout.Layout, Step.{Step, TheVariants.{Run, Tail, Gap}}}
-use Rattle.ffs_volume.specs.Blocks.BlockCheck.{set_count, after_first, run_offers_of_step, runs_until_reported, run_offers_of_steps}
-use Rattle.ffs_volume.specs.Blocks.BlockCheck.{run_offers_of_owners, rescan_runs}
+use Rattle.ffs_volume.specs.Blocks.BlockCheck.{set_count, after_first}
+use Rattle.ffs_volume.specs.Costs.RescanRuns.{run_offers_of_step, runs_until_reported, run_offers_of_steps}
+use Rattle.ffs_volume.specs.Costs.RescanRuns.{run_offers_of_owners, rescan_runs}
 use Rattle.ffs_volume.specs.Costs.VolumeReads.{indirect_in_steps, seen_indirect}
 use Rattle.ffs_walk.specs.{Counts.entered, Keepings.run_taken}
 use Rattle.ffs_claims.{proofs.Reportings.{after_append, none_after}, specs.Rescan.{step_offers_again, offers_again}}

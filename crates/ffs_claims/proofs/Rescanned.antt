@@ -14,7 +14,8 @@ use Rattle.ffs_volume.specs.{Directories.Volumes.is_inode_number, Encodings.Repl
 use Rattle.ffs_volume.specs.{Encodings.ReplayCounts.replayed_runs, Laws.Geometry.IsAcceptedLayout}
 use Rattle.ffs_volume.specs.{Report.Whole.run_count, declared.{Layout.Layout, Step.{Step, TheVariants.Run}}}
 use Rattle.ffs_volume.specs.{Encodings.Notes.{cut_in, note_at}}
-use Rattle.ffs_volume.specs.Blocks.BlockCheck.{after_first, run_offers_of_owners, runs_until_reported, set_count}
+use Rattle.ffs_volume.specs.Blocks.BlockCheck.{after_first, set_count}
+use Rattle.ffs_volume.specs.Costs.RescanRuns.{run_offers_of_owners, runs_until_reported}
 use Rattle.ffs_workspace.proofs.{Leaving.counts_unsurveyed, NoteLaws.cut_is_noted}
 use Rattle.ffs_workspace.specs.{Holds.{HoldsPhase1, HoldsBlockCheck}, declared.workspace.Workspace.Workspace}
 use Rattle.ffs_claims.proofs.{Duplicates.marked_total, Numbers.{before_end, is_inside}, RescanCounts.looked_both}

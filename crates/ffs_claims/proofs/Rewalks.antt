@@ -6,7 +6,7 @@ use Rattle.ffs_volume.specs.{Encodings.Replay.{Replay, fresh_replay, is_replay_o
 use Rattle.ffs_volume.specs.Encodings.ReplayCounts.{seen_run, replayed_runs, replay_step_by_cut}
 use Rattle.ffs_volume.specs.{Messages.Kinds.Message, declared.{BlockMessage.BlockMessage, Layout.Layout}}
 use Rattle.ffs_volume.specs.{declared.Step.{Step, TheVariants.Gap}, Blocks.BlockCheck.after_first}
-use Rattle.ffs_volume.specs.Blocks.BlockCheck.{runs_until_reported}
+use Rattle.ffs_volume.specs.Costs.RescanRuns.{runs_until_reported}
 use Rattle.ffs_image.specs.Device.{Device}
 use Rattle.ffs_report.proofs.Reporting.{of_says}
 use Rattle.ffs_image.specs.Known.{ForBytes}

@@ -3,7 +3,8 @@ use Rattle.std.specs.Prelude.{◌≡◌, ◌<◌, ◌≤◌, ◌+◌, ◌-◌, �
 use Rattle.std.specs.Prelude.{if◌then◌else◌, nat_lt, slice_index}
 use Rattle.std.specs.Int.{div_ceil}
 use Rattle.ffs_image.specs.Device.{Device}
-use Rattle.ffs_volume.specs.{declared.Layout.Layout, Blocks.{BlockCheck.{has_rescan, rescan_runs}, Owners.owners_of}}
+use Rattle.ffs_volume.specs.{declared.Layout.Layout, Blocks.{BlockCheck.has_rescan, Owners.owners_of}}
+use Rattle.ffs_volume.specs.Costs.RescanRuns.{rescan_runs}
 use Rattle.ffs_volume.specs.Blocks.{BlockCheck.first_offer_lines, Claims.no_claims, KeptOffers.{Offer, kept_in_owners}}
 use Rattle.ffs_volume.specs.Blocks.KeptSteps.{claims_before}
 use Rattle.ffs_maps.specs.Bits.{bits_of}

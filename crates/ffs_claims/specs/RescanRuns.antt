@@ -1,7 +1,8 @@
 -- The Runs that phase 1b looks at, replayed, and what walking over an inode again leaves.
 use Rattle.std.specs.{List.range_with_len, Prelude.{◌≡◌, ◌<◌, ◌≤◌, ℕ, ◌+◌, ◌-◌, ◌^◌, List, [], ◌∷◌, ◌++◌}}
 use Rattle.std.specs.Prelude.{if◌then◌else◌, map, Result, OnErr, OnOk, slice_index, true}
-use Rattle.ffs_volume.specs.Blocks.BlockCheck.{first_offer_lines, runs_until_reported}
+use Rattle.ffs_volume.specs.Blocks.BlockCheck.{first_offer_lines}
+use Rattle.ffs_volume.specs.Costs.RescanRuns.{runs_until_reported}
 use Rattle.ffs_volume.specs.Blocks.KeptOffers.{Offer, kept_in_steps, offer_of}
 use Rattle.ffs_volume.specs.Blocks.{Inodes.inode_of, Steps.steps_of}
 use Rattle.ffs_volume.specs.Encodings.Replay.{Replay, is_replay_open, fresh_replay}

@@ -1,9 +1,9 @@
 -- By a verdict on an entry, and by what is wrong with a directory, there is a message just where they
 -- aren't silent.
-use Rattle.std.proofs.Common.{◌≡◌, ◌≤◌, ◌==◌, ℕ, Bool, true, false, not, nat_lt, if◌then◌else◌, refl, ap, List, []}
+use Rattle.std.proofs.Common.{◌≡◌, ◌≤◌, ◌==◌, ℕ, Bool, true, false, nat_lt, refl, ap, List, []}
 use Rattle.std.proofs.{Common.{arith, length, length-append, inl, inr}, lemmas.Bool.{Decides.nat_tests, cases_Bool}}
-use Rattle.ffs_volume.specs.declared.{Attr.Attr, verdict.Verdict.{Verdict, TheVariants.{BadWhiteout, Named, OutOfRange}}}
-use Rattle.ffs_volume.specs.declared.verdict.{Verdict.TheVariants.{Unallocated, Whiteout}, EntryDefects.EntryDefects}
+use Rattle.ffs_volume.specs.declared.{Attr.Attr, verdict.Verdict.{Verdict, TheVariants.{Named}}}
+use Rattle.ffs_volume.specs.declared.verdict.{Verdict.TheVariants.{Whiteout}}
 use Rattle.ffs_volume.specs.{Blocks.Inodes.is_allocated, Directories.{Entries.Entry, Roles.Volume}}
 use Rattle.ffs_volume.specs.Directories.PathnameCheck.{has_wrong_type, is_bad_whiteout, is_extraneous}
 use Rattle.ffs_volume.specs.Directories.PathnameCheck.{is_first_of_suspect, verdict_on}

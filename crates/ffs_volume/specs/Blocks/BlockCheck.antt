@@ -1,13 +1,12 @@
--- The lines of phases 1 and 1b, and how many Runs phase 1b looks at.
+-- The lines of phases 1 and 1b.
 use Rattle.std.specs.Prelude.{ℕ, Bool, true, false, ◌*◌, ◌/◌, ◌&&◌, ◌||◌, not, List, [], ◌∷◌, ◌++◌, ◌==◌, slice_set}
-use Rattle.std.specs.{Prelude.{if◌then◌else◌, count_by, ◌+◌}, List.list_any}
-use Rattle.ffs_volume.specs.declared.{constants.TheConstants.DEV_BSIZE, Layout.Layout, Class.Class, Step.Step}
+use Rattle.std.specs.{Prelude.{if◌then◌else◌, count_by}, List.list_any}
+use Rattle.ffs_volume.specs.declared.{constants.TheConstants.DEV_BSIZE, Layout.Layout, Class.Class}
 use Rattle.ffs_volume.specs.declared.{Class.TheVariants.{Partial, Unknown}, BlockMessage.BlockMessage}
 use Rattle.ffs_volume.specs.declared.BlockMessage.TheVariants.{PartAlloc, UnknownType, Bad, Dup, BlockCount}
 use Rattle.ffs_volume.specs.Blocks.{Inodes.{is_file_or_dir, inode_of, class_of, is_unknown}, Owners.{Owner, owners_of}}
 use Rattle.ffs_volume.specs.Blocks.Claims.{Claims, no_claims, at_next_inode, is_open, is_set, after_owner, after_owners}
-use Rattle.ffs_volume.specs.Blocks.{Claims.{lines_of_steps, after_step, all_claims}, KeptOffers.{Offer, kept_in_owners}}
-use Rattle.ffs_volume.specs.{Blocks.KeptOffers.kept_in_run, declared.Step.TheVariants.{Run, Tail, Gap}}
+use Rattle.ffs_volume.specs.Blocks.{Claims.{lines_of_steps}, KeptOffers.{Offer, kept_in_owners}}
 
 -- the line of an inode's class
 abbrev pub class_lines : ℕ → Class → List BlockMessage
@@ -84,29 +83,3 @@ set_count bits = count_by (λ b. b) bits
 abbrev pub after_first : List Bool → List Offer → List Bool
 after_first left [] = left
 after_first left (o ∷ os) = after_first (if is_set left o.fragment then slice_set left o.fragment false else left) os
-
--- the kept offers of each Run that is seen: of a step, of steps, and of inodes
-abbrev pub run_offers_of_step : Layout → ℕ → Claims → Step → List (List Offer)
-run_offers_of_step v number s (Run start len block) = if is_open s then kept_in_run v number s start len ∷ [] else []
-run_offers_of_step v number s Tail = []
-run_offers_of_step v number s Gap = []
-
-abbrev pub run_offers_of_steps : Layout → ℕ → Claims → List Step → List (List Offer)
-run_offers_of_steps v number s [] = []
-run_offers_of_steps v number s (step ∷ steps) = run_offers_of_step v number s step ++ run_offers_of_steps v number (after_step v s step) steps
-
-unfoldable pub run_offers_of_owners : Layout → Claims → List Owner → List (List Offer)
-run_offers_of_owners v s [] = []
-run_offers_of_owners v s (o ∷ os) = run_offers_of_steps v o.number (at_next_inode s) o.steps ++ run_offers_of_owners v (after_owner v s o) os
-
--- how many of some Runs are looked at, by their kept offers: all up to the one that reports the
--- last fragment with a DUP line
-unfoldable pub runs_until_reported : List Bool → List (List Offer) → ℕ
-runs_until_reported left [] = 0
-runs_until_reported left (kept ∷ runs) =
-    if set_count left == 0 then 0 else 1 + runs_until_reported (after_first left kept) runs
-
--- how many Runs of an image phase 1b looks at
-unfoldable pub rescan_runs : Layout → List ℕ → ℕ
-rescan_runs v image =
-    runs_until_reported (all_claims v image).duplicates (run_offers_of_owners v (no_claims v) (owners_of v image))

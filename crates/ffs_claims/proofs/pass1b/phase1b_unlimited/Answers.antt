@@ -9,7 +9,7 @@ use Rattle.ffs_image.specs.Known.{ForBytes}
 use Rattle.ffs_maps.specs.Bits.{bits_of}
 use Rattle.ffs_workspace.specs.{Found.WithPhase1, declared.workspace.Workspace.Workspace}
 use Rattle.ffs_volume.specs.Blocks.{Inodes.inodes_of, Claims.all_claims, BlockCheck.{set_count, after_first}}
-use Rattle.ffs_volume.specs.Blocks.BlockCheck.{runs_until_reported, rescan_runs}
+use Rattle.ffs_volume.specs.Costs.RescanRuns.{runs_until_reported, rescan_runs}
 use Rattle.ffs_claims.proofs.{FirstOffers.all_reported}
 use Rattle.ffs_claims.proofs.Duplicates.{none_first, none_left, some_left}
 use Rattle.ffs_claims.proofs.Frames.{claims_none, claims_then, ready_again}

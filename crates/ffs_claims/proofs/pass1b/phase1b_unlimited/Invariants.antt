@@ -1,5 +1,6 @@
 use Rattle.std.proofs.Common.{◌≡◌, ◌+◌, ◌-◌, ◌<◌, ◌≤◌, Ok}
-use Rattle.ffs_volume.specs.Blocks.{BlockCheck.{first_offer_lines, rescan_runs, runs_until_reported}, Inodes.inodes_of}
+use Rattle.ffs_volume.specs.Blocks.{BlockCheck.first_offer_lines, Inodes.inodes_of}
+use Rattle.ffs_volume.specs.Costs.RescanRuns.{rescan_runs, runs_until_reported}
 use Rattle.ffs_volume.specs.Blocks.KeptSteps.{claims_before}
 use Rattle.ffs_report.specs.{PhaseOutcome.{HeadingFirst, SaidOf}, Progress.progress}
 use Rattle.ffs_image.specs.Known.{ForBytes}

@@ -2,7 +2,8 @@ use Rattle.std.proofs.Common.{ℕ, ◌≡◌, ◌++◌, replicate, [], arith, re
 use Rattle.std.proofs.lemmas.{Bool.Decides.nat_tests, Result.err_from_is_err_and}
 use Rattle.ffs_volume.specs.{Blocks.BlockCheck.first_offer_lines, Encodings.Replay.{fresh_replay, is_replay_open}}
 use Rattle.ffs_volume.specs.{Encodings.{ReplayCounts.replay_step_by_cut, Notes.cut_in}, declared.Step.TheVariants.Gap}
-use Rattle.ffs_volume.specs.Blocks.BlockCheck.{set_count, runs_until_reported}
+use Rattle.ffs_volume.specs.Blocks.BlockCheck.{set_count}
+use Rattle.ffs_volume.specs.Costs.RescanRuns.{runs_until_reported}
 use Rattle.ffs_report.proofs.Reporting.{of_begins, of_stops, of_reads, of_same}
 use Rattle.ffs_image.specs.Known.{ForBytes, IsContents}
 use Rattle.ffs_maps.specs.Bits.{bits_of}
