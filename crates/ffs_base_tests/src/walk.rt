@@ -2,6 +2,7 @@
 
 ghost use Rattle.std.specs.Prelude.{◌≡◌, ◌*◌, ◌≤◌, ℕ, List, Option, IfOk};
 ghost use Rattle.ffs_walk.specs.Windows.{BlocksHold, CanWalk, HasRoom};
+ghost use Rattle.ffs_layout.specs.HasVolume.{HasVolume};
 
 use crate::compare::same;
 use ffs_image::{FuseImage, Image, ImageFault};
@@ -81,7 +82,7 @@ fn steps<I: Image>(
     image: &mut I,
     alloc: Global,
 ) -> Result<(Vec<Step>, u64), Stop>
-    requires { geometry.now.layout.size * geometry.now.layout.fsize ≤ (I.device image.old).size }
+    requires { HasVolume geometry.now.layout (I.device image.old) }
 {
     let mut blocks = empty_blocks(geometry, alloc)?;
     let mut walk = Walk::start(geometry, inode);

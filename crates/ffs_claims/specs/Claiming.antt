@@ -112,10 +112,9 @@ pub record ReadsByBlock {T : Type 0} (v : Layout) (number : ℕ) (old new : Phas
   pub block : (HoldsInode old.workspace.windows.table number → ⊥)
       → OnOk result (HoldsPiece v v.inopb number new.workspace.windows.table)
 
--- what an inode leaves: the image, but for a read that failed, what its steps leave but for `claim_bound`, `found`
--- and `table`, a walk over the volume, and all that inodes which claim don't change (`ClaimsAndFinds`).
--- Of the Runs that it sees at most `runs_without_claim` claim no fragment, and each read is paid by a Run that is
--- seen
+-- what an inode leaves: the image, but for a read that failed, what the next inode asks for, few Runs more, and all
+-- that inodes which claim don't change (`ClaimsAndFinds`). Of the Runs that it sees at most `runs_without_claim`
+-- claim no fragment, and each read is paid by a Run that is seen
 pub record InodeLeaves {T : Type 0} (g : Geometry) (old new : PhaseMoment) (sweep : Sweep) (result : Result T RunFault)
     : Type 0 where
   pub image : ImageAfter old.image new.image result

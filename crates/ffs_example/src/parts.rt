@@ -3,6 +3,7 @@
 
 ghost use Rattle.std.specs.Prelude.{◌≡◌, ◌≤◌, ◌*◌};
 ghost use Rattle.ffs.specs.Cited.{IsReady};
+ghost use Rattle.ffs_layout.specs.HasVolume.{HasVolume};
 
 use ffs::{
     Args, Counted, Geometry, Image, Output, PathText, Report, Root, RunFault, Super, Workspace,
@@ -98,8 +99,7 @@ fn print_volume<I: Image>(
     image: &mut I,
     rest: &[u8],
 ) -> io::Result<()>
-    requires { superblock.now.geometry.layout.size * superblock.now.geometry.layout.fsize
-        ≤ (I.device image.old).size }
+    requires { HasVolume superblock.now.geometry.layout (I.device image.old) }
 {
     print_places(rt, &superblock.geometry)?;
     match Workspace::new(rt.alloc(), &superblock.geometry) {
@@ -134,8 +134,7 @@ fn print_end<I: Image>(
     image: &mut I,
     rest: &[u8],
 ) -> io::Result<()>
-    requires { superblock.now.geometry.layout.size * superblock.now.geometry.layout.fsize
-        ≤ (I.device image.old).size }
+    requires { HasVolume superblock.now.geometry.layout (I.device image.old) }
 {
     match Workspace::new(rt.alloc(), &superblock.geometry) {
         Ok(mut workspace) => print_rest(rt, superblock, image, &mut workspace, rest),

@@ -21,6 +21,7 @@ use Rattle.ffs_finding.specs.declared.request.Command.{Command, TheVariants.{Cop
 use Rattle.ffs_finding.specs.declared.find.FindFault.{FindFault, TheVariants.{Refused, Failed, NoMemory}}
 use Rattle.ffs_finding.specs.{Outcome.{PrintedTo, PrintedSome, StoppedIn, any_line}, Fields.WithSuper}
 use Rattle.ffs_finding.specs.{Copies.{ReadsCopies, window_bytes}}
+use Rattle.ffs_layout.specs.HasVolume.{HasVolume}
 
 -- what is printed of a target in an image with this accepted superblock
 abbrev pub target_lines : Target → (sector : Option ℕ) → (image : List ℕ) → Superblock → List (List ℕ)
@@ -247,7 +248,7 @@ pub record ReadsVolume (target : Target) (sector : Option ℕ) (d : Device) (bef
   pub found : Superblock
   pub accepted : ForContents d.contents (λ b. outcome b sector ≡ Ok found)
   pub sound : IsAcceptedLayout found.layout
-  pub inside : found.layout.size * found.layout.fsize ≤ d.size
+  pub inside : HasVolume found.layout d
   pub reads : after ≤ before + opening_reads + target_reads target found.layout
 
 -- how often a command reads an image: in a volume the superblock, and what a target takes after it

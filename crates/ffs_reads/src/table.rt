@@ -1,6 +1,7 @@
 //! The reads of a check of an image, part by part.
 ghost use Rattle.std.specs.Prelude.{◌*◌, ◌≤◌};
 ghost use Rattle.ffs_workspace.specs.Ready.{IsReady};
+ghost use Rattle.ffs_layout.specs.HasVolume.{HasVolume};
 
 use crate::limits::{OPENING_READS, part_reads, reads_limit};
 use crate::messages::MessageCounter;
@@ -115,8 +116,7 @@ fn count_parts<I: Image>(
     superblock: &Super,
     rows: &mut Vec<Row>,
 ) -> Result<(), AllocError>
-    requires volume { superblock.now.geometry.layout.size * superblock.now.geometry.layout.fsize
-        ≤ (⟦<CountedImage<I> as Image>⟧.device image.old).size }
+    requires volume { HasVolume superblock.now.geometry.layout (⟦<CountedImage<I> as Image>⟧.device image.old) }
 {
     let mut workspace = Workspace::new(alloc, &superblock.geometry)?;
     for part in PARTS {

@@ -2,6 +2,7 @@
 
 ghost use Rattle.std.specs.Prelude.{◌≡◌, ◌*◌, ◌≤◌, IfOk, length};
 ghost use Rattle.ffs_workspace.specs.Ready.{IsReady};
+ghost use Rattle.ffs_layout.specs.HasVolume.{HasVolume};
 
 use crate::compare::same;
 use ffs_claims::{phase1, phase1b};
@@ -139,7 +140,7 @@ fn checked<I: Image>(
     image: &mut I,
     alloc: Global,
 ) -> Result<(Vec<u8>, [u64; 2]), Fail>
-    requires { geometry.now.layout.size * geometry.now.layout.fsize ≤ (I.device image.old).size }
+    requires { HasVolume geometry.now.layout (I.device image.old) }
 {
     let mut workspace = Workspace::new(alloc, geometry)?;
     let (end, text) = printed(geometry, image, &mut workspace, alloc);

@@ -2,6 +2,7 @@
 
 ghost use Rattle.std.specs.Prelude.{◌*◌, ◌≤◌};
 ghost use Rattle.ffs_workspace.specs.Ready.{IsReady};
+ghost use Rattle.ffs_layout.specs.HasVolume.{HasVolume};
 
 use crate::compare::same;
 use ffs_claims::phase1;
@@ -97,7 +98,7 @@ fn checked<I: Image>(
     image: &mut I,
     alloc: Global,
 ) -> Result<(Vec<u8>, PathText), Fail>
-    requires { geometry.now.layout.size * geometry.now.layout.fsize ≤ (I.device image.old).size }
+    requires { HasVolume geometry.now.layout (I.device image.old) }
 {
     let mut path = PathText::new();
     let mut workspace = Workspace::new(alloc, geometry)?;
