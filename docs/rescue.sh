@@ -242,7 +242,7 @@ is_whole() {
 }
 
 list_names() (
-    LC_ALL=C how='' tab=$(printf '\t') done=" " left=''
+    LC_ALL=C how='' tab=$(printf '\t') done=" " left='' status=0
     [ "$1" != -m ] || { how="-m"; shift; }
     image=$(bounded "$1" 40000) || exit 1
     todo="${2-}$tab"
@@ -253,10 +253,11 @@ list_names() (
             awk 'NR == 1 { before = $0; next } { print substr($0, 1, 3) before substr($0, 4) }'
         left=$({ printf '\t%s\n' "$path"; fls -r -p -f ufs1 "$image" ${i:+"$i"} || echo fault; } | awk -F "$tab" -v how="$how" 'NR == 1 { before = $2; next }'"$of_listing"'
             { is_unread = unread($1, $2); $2 = before $2 } !how { print $1 "\t" $2 | "cat >&3" } is_unread { tell($1, "-") }')
-        is_whole || complain "list_names: the list of what is in /$path isn't whole" || :
+        is_whole || complain "list_names: the list of what is in /$path isn't whole" || status=1
         [ -z "$left" ] || todo=$(printf '%s\n' "$left" | awk -F "$tab" '$1 == "D" { print $3 "\t" $4 "/" }')$newline$todo
     done
     rm -f bounded.img
+    exit $status
 )
 
 # recovered IMAGE PLACE [I]: as recover, of an image where no size is too large

@@ -48,9 +48,9 @@ pub record IsDirUnreported (vol : Volume) (d : ℕ) : Type 0 where
   pub sound : are_sound (vol.chunks d) ≡ true
   pub dot_there : IsSomeAnd (dot vol d) (λ e. (e.number ≡ d) × (e.kind ≡ DT_DIR))
   pub dotdot_there : IsSomeAnd (dotdot vol d) (λ e. e.kind ≡ DT_DIR)
-  pub no_extra : (j : ℕ) (s : RoledEntry) → nth_roled (roled_entries vol d) j ≡ Some s → s.role ≢ Extra
-  pub plain : (j : ℕ) (s : RoledEntry) → nth_roled (roled_entries vol d) j ≡ Some s → s.role ≡ Plain
-      → IsPlainUnreported vol s.entry
+  pub no_extra : (j : ℕ) (e : RoledEntry) → nth_roled (roled_entries vol d) j ≡ Some e → e.role ≢ Extra
+  pub plain : (j : ℕ) (e : RoledEntry) → nth_roled (roled_entries vol d) j ≡ Some e → e.role ≡ Plain
+      → IsPlainUnreported vol e.entry
 
 -- neither ROOT INODE UNALLOCATED nor ROOT INODE NOT DIRECTORY is reported, and no directory
 pub record AreDirsUnreported (vol : Volume) : Type 0 where

@@ -7,7 +7,13 @@
 //! reports a defect (`stop_is_reported`). Claims are bounded (`claims_are_bounded`), the Runs of an
 //! inode hold each logical block once at most, in order (`blocks_rise`), and the fold over steps
 //! keeps what the rule says (`keeping_is_by_rule`). Worked images have their whole reports
-//! (`examples_hold`). Each function is a law: its contract is the statement, and nothing runs.
+//! (`examples_hold`). Each function is a law: its contract is the statement, and nothing runs:
+//!
+//! ```text
+//! pub fn report_is_right()
+//!     ensures { ReportIsRight }
+//! {}
+//! ```
 //!
 //! It rests on `ffs_volume`.
 #![tactic(auto)]

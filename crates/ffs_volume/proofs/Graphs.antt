@@ -2,7 +2,7 @@
 use Rattle.std.proofs.Common.{◌≡◌, ◌≢◌, ℕ, ◌<◌, Bool, true, false, Some}
 use Rattle.ffs_volume.specs.Directories.Graph.{Graph, reached, parent, parent_entry_index}
 use Rattle.ffs_volume.specs.Directories.{Connectivity.{is_dead_in, is_unref_dir_in}, Graph.is_naming_entry_at}
-use Rattle.ffs_volume.specs.Directories.Graph.{IsNamedOnce}
+use Rattle.ffs_volume.specs.Consistent.DirectoriesRight.{IsNamedOnce}
 use Rattle.ffs_volume.specs.declared.constants.TheConstants.{ROOTINO}
 
 -- a directory has the number of an inode, and there is an inode 2

@@ -11,6 +11,14 @@
 //! and `laws` states laws and worked examples of the definitions. The lemmas that the crates above
 //! use are in `proofs/`.
 //!
+//! A contract cites a definition by its name. Of an end of a check it says that the status is the
+//! book's (`Report/Whole`):
+//!
+//! ```text
+//! pub fn status(&self) -> u8
+//!     ensures { result ≡ status_of self.now }
+//! ```
+//!
 //! It rests on no other crate of this repository.
 #![tactic(auto)]
 

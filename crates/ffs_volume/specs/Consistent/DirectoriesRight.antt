@@ -5,7 +5,7 @@ use Rattle.ffs_volume.specs.declared.constants.TheConstants.{WINO, ROOTINO, DIRB
 use Rattle.ffs_volume.specs.{declared.{Class.TheVariants.Dir, Role.TheVariants.{Extra, Plain}}, Blocks.Inodes.type_of}
 use Rattle.ffs_volume.specs.Directories.{Entries.Entry, Roles.{Volume, RoledEntry, is_dir, is_allocated_inode}}
 use Rattle.ffs_volume.specs.Directories.{Roles.{roled_entries, dot, dotdot, references}, Graph.reached}
-use Rattle.ffs_volume.specs.Directories.{Graph.{is_naming_entry_at, IsNamedOnce}, Naming.{graph_of, nth_roled}}
+use Rattle.ffs_volume.specs.Directories.{Graph.{Graph, is_naming_entry_at}, Naming.{graph_of, nth_roled}}
 use Rattle.ffs_volume.specs.Directories.PathnameCheck.{are_sound}
 
 -- a directory's size is a positive multiple of 512 bytes
@@ -38,6 +38,13 @@ pub record IsDirRight (vol : Volume) (d : ℕ) : Type 0 where
 pub record AreDirsRight (vol : Volume) : Type 0 where
   pub root : vol.class ROOTINO ≡ Dir
   pub each : (d : ℕ) → is_dir vol d ≡ true → IsDirRight vol d
+
+-- exactly one plain entry names d: the one at this index of `in_dir`
+pub record IsNamedOnce (g : Graph) (d : ℕ) : Type 0 where
+  pub in_dir : ℕ
+  pub index : ℕ
+  pub there : is_naming_entry_at g in_dir index d ≡ true
+  pub only : (s j : ℕ) → is_naming_entry_at g s j d ≡ true → (s ≡ in_dir) × (j ≡ index)
 
 -- a directory is named by exactly one plain entry and reached from 2, and its `..` has the number
 -- of the directory with that entry

@@ -2,7 +2,7 @@
 -- (`graph_of`). Only plain entries count. A plain entry names the number that it carries
 -- (`is_naming_entry`; by its index `is_naming_entry_at`), and its directory names it too
 -- (`is_naming_dir`). A number is named where some directory names it (`is_named`).
-use Rattle.std.specs.Prelude.{◌≡◌, ℕ, zero, suc, ◌==◌, Bool, true, false, ◌&&◌, ◌||◌, List, Option, None, Some}
+use Rattle.std.specs.Prelude.{ℕ, zero, suc, ◌==◌, Bool, false, ◌&&◌, ◌||◌, List, Option, None, Some}
 use Rattle.std.specs.{Prelude.{is_some, cond, [], ◌∷◌, option_map, if◌then◌else◌}, List.list_any}
 use Rattle.ffs_volume.specs.{declared.constants.TheConstants.ROOTINO, Directories.Roles.{RoledEntry, is_plain}}
 use Rattle.ffs_volume.specs.{Disk.Search.{first_below, some_below}, Directories.Climb.is_value}
@@ -83,10 +83,3 @@ test_at p (suc j) (e ∷ es) = test_at p j es
 -- the entry at index j of the directory s is a plain one that names x
 abbrev pub is_naming_entry_at : (g : Graph) (s j x : ℕ) → Bool
 is_naming_entry_at g s j x = g.is_dir s && test_at (is_naming_entry x) j (g.entries s)
-
--- exactly one plain entry names d: the one at this index of `in_dir`
-pub record IsNamedOnce (g : Graph) (d : ℕ) : Type 0 where
-  pub in_dir : ℕ
-  pub index : ℕ
-  pub there : is_naming_entry_at g in_dir index d ≡ true
-  pub only : (s j : ℕ) → is_naming_entry_at g s j d ≡ true → (s ≡ in_dir) × (j ≡ index)
