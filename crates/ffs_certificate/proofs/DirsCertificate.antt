@@ -3,7 +3,8 @@ use Rattle.std.proofs.Common.{◌≡◌, ◌≢◌, ℕ, true, false, not, Optio
 use Rattle.std.proofs.lemmas.Bool.{cases_eq, ne_eqb, and_parts, and_from, not-false, not_from_true, Decides.nat_tests}
 use Rattle.ffs_volume.specs.declared.{Class.{TheVariants.Dir, Class}, Role.TheVariants.Plain}
 use Rattle.ffs_volume.specs.Directories.Roles.{Volume, RoledEntry, is_dir, is_suspect, dotdot, roled_entries}
-use Rattle.ffs_volume.specs.Directories.{Graph.{parent, parent_entry_index, reached, IsNamedOnce}, Naming.graph_of}
+use Rattle.ffs_volume.specs.Directories.{Graph.{parent, parent_entry_index, reached}, Naming.graph_of}
+use Rattle.ffs_volume.specs.Consistent.DirectoriesRight.{IsNamedOnce}
 use Rattle.ffs_volume.specs.Directories.{Naming.{is_parent_entry, nth_roled}, PathnameCheck.is_wrong_parent}
 use Rattle.ffs_volume.specs.Directories.{PathnameCheck.is_extraneous, Entries.Entry, Climb.is_value}
 use Rattle.ffs_volume.specs.{Directories.Connectivity.is_unref_dir, Blocks.Inodes.is_directory}
