@@ -17,9 +17,7 @@ use Rattle.ffs_volume.specs.Messages.Kinds.{of_reference}
 tested : (g : given.Over) (c : After-is_unref-unref g) →
     ForBytes (WithSurvey c.args.geometry.now.layout (g.I.Image.device c.args.image.now) c.args.workspace.now)
     (λ bytes. is_unref_dir (volume_of c.args.geometry.now.layout bytes) c.args.number ≡ c.is_unref-unref.result)
-tested g c bytes k = sym (c.is_unref-unref.ensures
-    ∙ unref_held c.args.geometry.now.layout bytes c.args.workspace.now k.1 k.2 c.args.number (omega arith) (omega arith)
-    c.requires.ready.ready.made c.requires.leaders)
+tested g c bytes k = grind (arith, unref_held)
 
 -- the line of one that is read
 heard_of : (g : given.Over) (c : After-of g) →
