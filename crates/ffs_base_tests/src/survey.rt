@@ -7,8 +7,8 @@ use ffs_image::ImageFault;
 use ffs_memory::{FilledList, Memory, SystemMemory};
 use ffs_samples::{flags, numbers, set_first_filled};
 use ffs_survey::{
-    Directories, EntryHead, FoundLists, KnownInodes, Surveyed, flag_leaders, is_dead, is_dir,
-    is_suspect, is_unref, may_be_unreached, survey_directories,
+    Directories, EntryHead, FoundLists, KnownInodes, is_dead, is_dir, is_suspect, may_be_unreached,
+    survey_directories,
 };
 use ffs_volume::Role;
 use std::alloc::{AllocError, Global};
@@ -224,51 +224,6 @@ fn surveys_a_tree_and_a_cycle(rt: HostRuntime) -> Result<(), Fail> {
         &left.calm,
         &[false, false, true, false, false, false, false, false],
     );
-    Ok(())
-}
-
-/// Which of the directories 2, 3, 5 and 6 are unreferenced.
-fn unref_of(surveyed: &Surveyed<'_>) -> [bool; 4] {
-    let mut unref = [false; 4];
-    for (index, dir) in [2, 3, 5, 6].iter().enumerate() {
-        if (*dir as usize) < surveyed.kinds.len() {
-            unref[index] = is_unref(*dir, surveyed);
-        }
-    }
-    unref
-}
-
-/// The directories that lead a cycle, and which of four are unreferenced.
-fn leaders(alloc: Global) -> Result<([bool; 8], [bool; 4]), AllocError> {
-    let parents = numbers(&PARENTS, alloc)?;
-    let marked = flags(&[false; 8], alloc)?;
-    let named = flags(&NAMED, alloc)?;
-    let reached = flags(&REACHED, alloc)?;
-    let mut walk_of = numbers(&[7; 8], alloc)?;
-    let mut leaders = flags(&[true; 8], alloc)?;
-    flag_leaders(&parents, &mut walk_of, &mut leaders);
-    let surveyed = Surveyed {
-        kinds: &KINDS,
-        marked: &marked,
-        named: &named,
-        reached: &reached,
-        parents: &parents,
-        leaders: &leaders,
-    };
-    let unref = unref_of(&surveyed);
-    Ok((firsts_of(&leaders, false), unref))
-}
-
-/// The least number of each cycle leads it: the root's own, and that of 5 and 6.
-#[test]
-fn leads_a_cycle_by_its_least_number(rt: HostRuntime) -> Result<(), Fail> {
-    let (leaders, unref) = leaders(rt.alloc())?;
-    same(
-        &rt,
-        &leaders,
-        &[false, false, true, false, false, true, false, false],
-    );
-    same(&rt, &unref, &[false, false, true, false]);
     Ok(())
 }
 

@@ -1,7 +1,7 @@
 -- The leaders of cycles of parents: the least directory of each.
 use Rattle.std.specs.Prelude.{◌≡◌, ℕ, length}
 use Rattle.ffs_volume.specs.Directories.Climb.{is_leader_within}
-use Rattle.ffs_survey.specs.Cycles.{parent_in}
+use Rattle.ffs_connectivity.specs.Cycles.{parent_in}
 use Rattle.ffs_workspace.specs.{declared.workspace.Workspace.Workspace, Holds.bool_at}
 
 -- `flags` is set of the leaders, one for each cycle of parents, and of no other inode

@@ -10,12 +10,13 @@ ghost use Rattle.ffs_volume.specs.Directories.Volumes.{volume_of};
 ghost use Rattle.ffs_connectivity.specs.Unreached.{IsFirstUnreached};
 ghost use Rattle.ffs_workspace.specs.{Found.WithSurvey, Leaves.LeavesSurvey, Ready.IsReady, Tables.IsTableSector};
 
+use crate::cycles::flag_leaders;
 use crate::unref::report_unref;
 use ffs_image::Image;
 use ffs_layout::Geometry;
 use ffs_memory::FilledList;
 use ffs_report::{Heading, Line, Output, Report, RunFault};
-use ffs_survey::{flag_leaders, is_dir, may_be_unreached};
+use ffs_survey::{is_dir, may_be_unreached};
 use ffs_volume::constants::ROOTINO;
 use ffs_workspace::Workspace;
 

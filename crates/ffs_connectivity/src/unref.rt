@@ -1,20 +1,53 @@
 //! The line UNREF DIR, on one directory of each lost tree or cycle.
 
-ghost use Rattle.std.specs.Prelude.{◌≤◌, ◌+◌, length, map};
+ghost use Rattle.std.specs.Prelude.{◌≡◌, ◌<◌, ◌≤◌, ◌+◌, length, map};
 ghost use Rattle.ffs_report.specs.{Paid.Paid, Fails.FailsIn, PhaseOutcome.{ImageAfter, PhaseReports}};
 ghost use Rattle.ffs_image.specs.Known.{ForBytes};
 ghost use Rattle.ffs_report.specs.Progress.{progress};
 ghost use Rattle.ffs_volume.specs.{Directories.Volumes.volume_of, Messages.Kinds.of_tree};
 ghost use Rattle.ffs_workspace.specs.{Found.WithSurvey, Ready.KeepsWindows, Tables.IsTableSector};
 ghost use Rattle.ffs_volume.specs.Directories.Connectivity.{unref_dir_lines};
-ghost use Rattle.ffs_connectivity.specs.Phase3.{CanReportUnref};
+ghost use Rattle.ffs_volume.specs.{declared.Layout.Layout, Blocks.Inodes.inodes_of};
+ghost use Rattle.ffs_workspace.specs.Lengths.{IsFor};
+ghost use Rattle.ffs_connectivity.specs.Phase3.{CanReportUnref, is_unref_by};
 
 use ffs_image::Image;
 use ffs_layout::Geometry;
 use ffs_report::{Line, Output, ReferenceLine, Report, RunFault};
-use ffs_survey::{Surveyed, is_unref};
+use ffs_survey::{is_dead, is_dir, number_of};
 use ffs_volume::Attr;
+use ffs_volume::constants::ROOTINO;
 use ffs_workspace::Workspace;
+
+/// Whether a directory is reported as unreferenced: neither reached nor dead, and without a parent,
+/// with a dead one, or the least number on a cycle of parents, of which it has a flag.
+#[tactic(auto, unfolding(crate::specs::Phase3::is_unref_by))]
+fn is_unref(workspace: &Workspace, dir: u32) -> bool
+    requires { (layout : Layout) × (IsFor layout workspace.now × (dir < inodes_of layout)) }
+    ensures { result ≡ is_unref_by workspace.now dir }
+{
+    let kinds: &[u8] = &workspace.kinds;
+    if !is_dir(kinds, dir as usize) {
+        return false;
+    }
+    if dir == ROOTINO {
+        return false;
+    }
+    if workspace.reached[dir as usize] {
+        return false;
+    }
+    if is_dead(kinds, &workspace.marked, &workspace.named, dir) {
+        return false;
+    }
+    let parent = number_of(&workspace.parents, dir as usize);
+    if parent == 0 || parent as usize >= kinds.len() {
+        return true;
+    }
+    if is_dead(kinds, &workspace.marked, &workspace.named, parent) {
+        return true;
+    }
+    workspace.flags[dir as usize]
+}
 
 /// Reports an inode if it is a lost directory that has no parent, has a dead one, or is the least
 /// number on a cycle of parents.
@@ -43,15 +76,7 @@ pub fn report_unref<I: Image, W: Output>(
     ensures stays { KeepsWindows geometry.now.layout (I.device image.new) workspace.old
         workspace.new }
 {
-    let found = Surveyed {
-        kinds: &workspace.kinds,
-        marked: &workspace.marked,
-        named: &workspace.named,
-        reached: &workspace.reached,
-        parents: &workspace.parents,
-        leaders: &workspace.flags,
-    };
-    let unref = is_unref(number, &found);
+    let unref = is_unref(workspace, number);
     if !unref {
         return Ok(());
     }

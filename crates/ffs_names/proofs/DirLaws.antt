@@ -9,7 +9,7 @@ use Rattle.ffs_volume.specs.Directories.{Roles.{is_dir, roled_chunk, roled_entri
 use Rattle.ffs_volume.specs.{Directories.Volumes.{is_inode_number, volume_of, volume_with}, Disk.Areas.is_run_in_range}
 use Rattle.ffs_volume.specs.Encodings.{Kinds.{kind_at, is_dir_at}, Replay.{cut_at, fresh_replay, replayed_steps}}
 use Rattle.ffs_volume.specs.{Laws.Geometry.IsAcceptedLayout, Costs.Calm.{is_right_shape, is_right_size}}
-use Rattle.ffs_survey.proofs.SurveyLaws.{dirs_of_kinds}
+use Rattle.ffs_workspace.proofs.KindLaws.{dir_is as kind_dir}
 use Rattle.ffs_names.specs.RunCursors.{reading_by}
 
 class_by : Bool → Bool → Bool → Bool → Class
@@ -53,8 +53,7 @@ dir_seen v b d i cut g n e c = rw (e, c, replay_at v b d g n) refl
 -- kinds say which inodes are directories
 pub kind_dirs : (v : Layout) (b kinds : List ℕ) (x : ℕ) → slice_index kinds x ≡ kind_at v b x →
     is_dir_at kinds x ≡ is_dir (volume_of v b) x
-unfolding kind_at
-kind_dirs v b kinds x h = dirs_of_kinds v b kinds x h
+kind_dirs v b kinds x h = grind (arith, kind_dir)
 
 -- the shape of a directory
 pub shape_seen : (v : Layout) (b : List ℕ) (d : ℕ) (i : Inode) (cut : ℕ) → IsAcceptedLayout v → is_inode_number v d ≡

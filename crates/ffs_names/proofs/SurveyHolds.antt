@@ -4,14 +4,12 @@ use Rattle.std.{proofs.{Common.{min, slice_index, sym, refl}, lemmas.Bool.and_pa
 use Rattle.std.specs.Prelude.{Result, Ok, Err, OnOk, OnErr}
 use Rattle.ffs_image.specs.Known.{ForBytes}
 use Rattle.ffs_volume.specs.{declared.Layout.Layout, Encodings.Kinds.kind_at, Directories.Naming.graph_of}
-use Rattle.ffs_volume.specs.Directories.{Roles.roled_entries, Volumes.{volume_of, volume_with}}
+use Rattle.ffs_volume.specs.Directories.{Roles.{Volume, references, references_below, roled_entries}, Volumes.{volume_of, volume_with}}
 use Rattle.ffs_volume.specs.{Encodings.Links.start_at, Blocks.Inodes.inodes_of, Costs.Calm.is_directory_of_right_shape}
 use Rattle.ffs_workspace.specs.Holds.{HoldsBlockCheck, HoldsReferences, HoldsTree}
 use Rattle.ffs_workspace.{proofs.Leaving.counts_surveyed, specs.Leaves.LeavesBlockCheck}
 use Rattle.ffs_workspace.specs.declared.workspace.Workspace.{Workspace}
-use Rattle.ffs_survey.specs.{Calm.AreCalm, Survey.{graph_with, most_start, references_to}}
-use Rattle.ffs_survey.proofs.SurveyLaws.{references_is}
-use Rattle.ffs_survey.specs.Survey.{IsSurvey}
+use Rattle.ffs_survey.specs.{Calm.AreCalm, Survey.{IsSurvey, counted_below, graph_with, most_start, references_to}}
 use Rattle.ffs_names.{specs.{Readers.{Base, dir_entries, dir_right_shape}, Surveys.FlagsOnlyCalm}, proofs.DirLaws.kind_dirs}
 use Rattle.ffs_names.proofs.SameGraphs.{survey_same}
 
@@ -34,6 +32,11 @@ pub holds_tree : (v : Layout) (b : List ℕ) (w : Workspace) (starts counts : Li
     → IsSurvey (graph_of (volume_of v b)) starts counts flags marks parents → HoldsTree v b w
 unfolding volume_of volume_with
 holds_tree v b w starts counts flags marks parents f m u s = grind arith
+
+-- the references of the graph are the volume's
+references_is : (v : Volume) (x : ℕ) → references_to (graph_of v) x ≡ references v x
+unfolding counted_below references_below
+references_is v x = grind arith
 
 -- no start is past the greatest one
 start_low : (v : Layout) (b : List ℕ) (x : ℕ) → start_at v b x ≤ most_start

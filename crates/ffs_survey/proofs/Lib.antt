@@ -18,12 +18,7 @@
 --   CalmLaws        those that are called calm are calm, and stay so
 --   ReadOnce        each reached directory is read once, when no child of it is reached: so each calm one has a flag
 --
--- Parents:
---   Walks           walks along parents
---   UnrefLaws       the test of an unreferenced directory, from what is kept of each inode
---
 -- For the proofs of the crates above:
---   SurveyLaws      a survey by the kinds and marks of a volume is one of the volume
 --   ParentLaws      the parent of a reached directory is one level nearer to inode 2
 pub mod Remaining
 mod Discovered
@@ -33,11 +28,8 @@ mod Skipping
 mod Queues
 mod NextLevel
 mod UnreachedLaws
-mod Walks
-mod UnrefLaws
 mod Lending
 pub mod CalmLaws
 pub mod ReadOnce
 pub mod Costs
-pub mod SurveyLaws
 pub mod ParentLaws

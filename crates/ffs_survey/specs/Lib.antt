@@ -3,22 +3,18 @@
 -- files:
 --
 --   survey_directories         FindsSurvey (`Levels`), KeepsLists and LeavesDirectories (`Lent`)
---   flag_leaders               FlagsEachLeader (`Cycles`)
 --   is_suspect, is_dead        suspect_at, dead_at (`Survey`)
---   is_unref                   is_unref_dir_in of the book, by AreNamed and IsTree (`Survey`)
 --   Directories, the trait     LeavesReader (`Reading`), TakesReads (`Costs`)
 --
 -- Read first `Survey`, what a survey finds of each inode (IsSurvey), `Reading` and `Costs`, what a reader gives and
 -- takes. Then, each on those before it: `Discover` has all lists of a survey at one moment (Found), and what
--- directories add to them, one after another; `Cycles` is about walks along parents, `Lists` about the lengths of
--- the lists, `Calm` about the directories that are flagged; `Levels` puts these together (FindsSurvey); `Lent` says
--- the same of the lists as they are lent to a call (Lists, FoundLists), and what the calls within a survey need and
--- leave.
+-- directories add to them, one after another; `Lists` is about the lengths of the lists, `Calm` about the
+-- directories that are flagged; `Levels` puts these together (FindsSurvey); `Lent` says the same of the lists as they
+-- are lent to a call (Lists, FoundLists), and what the calls within a survey need and leave.
 pub mod Survey
 pub mod Reading
 pub mod Costs
 pub mod Discover
-pub mod Cycles
 pub mod Lists
 pub mod Calm
 pub mod Levels

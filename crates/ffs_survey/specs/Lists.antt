@@ -1,7 +1,6 @@
 -- The lists of a survey: each has an entry for every inode.
 use Rattle.std.specs.Prelude.{◌≡◌, ℕ, ◌+◌, ◌<◌, ◌≤◌, ◌^◌, Bool, false, List, length}
-use Rattle.ffs_volume.specs.Directories.Climb.{is_leader_within}
-use Rattle.ffs_survey.specs.{Survey.{bool_at, number_at}, Cycles.parent_in, Discover.Found}
+use Rattle.ffs_survey.specs.{Survey.{bool_at, number_at}, Discover.Found}
 
 -- the references of each inode and whether an entry names it: one more reference of x fits
 pub record CountLists (kinds references : List ℕ) (named : List Bool) (x : ℕ) : Type 0 where
@@ -24,17 +23,6 @@ pub record AreLists (l : Found) : Type 0 where
   pub parents_long : length l.parents ≡ length l.kinds
   pub calm_long : length l.calm ≡ length l.kinds
   pub queue_long : length l.queue ≡ length l.kinds
-
--- the lists of a survey have an element for each inode, and `leaders` says which of them is the least
--- number on a cycle of parents
-pub record AreSurveyed (kinds : List ℕ) (marked named reached : List Bool) (parents : List ℕ) (leaders : List Bool)
-    : Type 0 where
-  pub marked_long : length marked ≡ length kinds
-  pub named_long : length named ≡ length kinds
-  pub reached_long : length reached ≡ length kinds
-  pub parents_long : length parents ≡ length kinds
-  pub leaders_long : length leaders ≡ length kinds
-  pub cycles : (x : ℕ) → bool_at leaders x ≡ is_leader_within (parent_in parents) (length parents) x
 
 -- no reference count below n grew by more than `most`
 abbrev pub GrowsBy : (n most : ℕ) → (old new : List ℕ) → Type 0

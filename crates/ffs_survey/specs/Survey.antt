@@ -48,17 +48,3 @@ pub record IsSurvey (g : Graph) (starts references : List ℕ) (named reached : 
   pub names : (x : ℕ) → x < g.count → bool_at named x ≡ is_named g x
   pub reaches : (x : ℕ) → bool_at reached x ≡ is_reached g x
   pub parent_is : (x : ℕ) → number_at parents x ≡ unwrap_or (parent g x) 0
-
--- this list holds of each inode of a graph whether a plain entry names it
-pub record AreNamed (g : Graph) (kinds : List ℕ) (named : List Bool) : Type 0 where
-  pub count : g.count ≡ length kinds
-  pub names : (x : ℕ) → x < g.count → bool_at named x ≡ is_named g x
-
--- a graph over the directories of these kinds; the other lists hold of each inode whether it is
--- reached in that graph, and its parent, 0 for none
-pub record IsTree (g : Graph) (kinds : List ℕ) (reached : List Bool) (parents : List ℕ) : Type 0 where
-  pub some : 2 < g.count
-  pub count : g.count ≡ length kinds
-  pub dirs : (x : ℕ) → g.is_dir x ≡ is_dir_at kinds x
-  pub reaches : (x : ℕ) → bool_at reached x ≡ is_reached g x
-  pub parent_is : (x : ℕ) → number_at parents x ≡ unwrap_or (parent g x) 0

@@ -1,6 +1,6 @@
 //! The lists of a survey.
 ghost use Rattle.std.specs.Prelude.{◌≡◌, length, vec_len};
-ghost use Rattle.ffs_survey.specs.Lists.{AreLists, AreSurveyed, NoneUnless};
+ghost use Rattle.ffs_survey.specs.Lists.{AreLists, NoneUnless};
 
 use ffs_memory::FilledList;
 
@@ -82,23 +82,4 @@ pub struct LentDir<'kinds, 'marked> {
     pub parent: u32,
     ghost long: { vec_len marked.now ≡ length kinds.now },
     ghost none_marked: { NoneUnless any_marked marked.now.items },
-}
-
-/// What a survey left, and which directories lead a cycle of parents.
-#[derive(Clone, Copy)]
-pub struct Surveyed<'a> {
-    /// What each inode is (`Kind` of `ffs_volume`).
-    pub kinds: &'a [u8],
-    /// Whether each inode is marked.
-    pub marked: &'a FilledList<bool>,
-    /// Whether a plain entry names each inode.
-    pub named: &'a FilledList<bool>,
-    /// Whether each inode is reached from inode 2.
-    pub reached: &'a FilledList<bool>,
-    /// The parent of each directory, 0 for none.
-    pub parents: &'a FilledList<u32>,
-    /// Whether each inode is the least on a cycle of parents.
-    pub leaders: &'a FilledList<bool>,
-    ghost whole: { AreSurveyed kinds.now marked.now.items named.now.items reached.now.items
-        parents.now.items leaders.now.items },
 }

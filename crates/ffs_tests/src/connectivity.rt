@@ -5,11 +5,13 @@ ghost use Rattle.ffs_workspace.specs.{Lengths.IsFor, Ready.IsReady};
 ghost use Rattle.ffs_volume.specs.Blocks.Inodes.{inodes_of};
 
 use crate::compare::same;
-use ffs_connectivity::phase3;
+use ffs_connectivity::{flag_leaders, phase3};
 use ffs_image::Image;
 use ffs_layout::{Geometry, Order};
 use ffs_report::{Counted, Report, RunFault};
-use ffs_samples::{Number, geometry, image_of, set_first, set_first_filled};
+use ffs_samples::{
+    Number, flags, geometry, image_of, numbers, set_first, set_first_filled,
+};
 use ffs_workspace::Workspace;
 use std::alloc::{AllocError, Global};
 use std::test::Fail;
@@ -71,6 +73,21 @@ fn reports_cut_off_directories(rt: HostRuntime) -> Result<(), Fail> {
         &rt,
         &text.as_slice(),
         &b"** Phase 3 - Check Connectivity\nUNREF DIR I=3 OWNER=7 MODE=40755\nSIZE=512 MTIME=86400\nRECONNECT? no\n\nUNREF DIR I=5 OWNER=0 MODE=0\nSIZE=0 MTIME=0\nRECONNECT? no\n\nUNREF DIR I=7 OWNER=0 MODE=0\nSIZE=0 MTIME=0\nRECONNECT? no\n\n".as_slice(),
+    );
+    Ok(())
+}
+
+/// The least number of each cycle leads it: the root's own, and that of 5 and 6.
+#[test]
+fn leads_a_cycle_by_its_least_number(rt: HostRuntime) -> Result<(), AllocError> {
+    let parents = numbers(&[0, 0, 2, 2, 0, 6, 5, 0], rt.alloc())?;
+    let mut walk_of = numbers(&[7; 8], rt.alloc())?;
+    let mut leaders = flags(&[true; 8], rt.alloc())?;
+    flag_leaders(&parents, &mut walk_of, &mut leaders);
+    same(
+        &rt,
+        &[leaders[0], leaders[2], leaders[3], leaders[5], leaders[6]],
+        &[false, true, false, true, false],
     );
     Ok(())
 }

@@ -5,7 +5,7 @@ use Rattle.ffs_image.specs.Known.{ForBytes}
 use Rattle.ffs_report.proofs.Reporting.{reads_first, says_none, stops_all}
 use Rattle.ffs_workspace.{specs.Found.WithSurvey, proofs.TablePlaces.fails_in_table}
 use Rattle.ffs_volume.specs.Directories.Connectivity.{unref_dir_lines}
-use Rattle.ffs_connectivity.proofs.UnrefLines.{attributes_are, unref_dir_is, one_line}
+use Rattle.ffs_connectivity.proofs.{UnrefLaws.unref_held, UnrefLines.{attributes_are, one_line}}
 use Rattle.ffs_connectivity.proofs.{UnrefLines.{silent, heard}, unref.report_unref.Goals.After-is_unref-unref}
 use Rattle.ffs_connectivity.proofs.unref.report_unref.Goals.{After-of}
 use Rattle.ffs_connectivity.proofs.unref.report_unref.Given as given
@@ -17,9 +17,7 @@ use Rattle.ffs_volume.specs.Messages.Kinds.{of_reference}
 tested : (g : given.Over) (c : After-is_unref-unref g) →
     ForBytes (WithSurvey c.args.geometry.now.layout (g.I.Image.device c.args.image.now) c.args.workspace.now)
     (λ bytes. is_unref_dir (volume_of c.args.geometry.now.layout bytes) c.args.number ≡ c.is_unref-unref.result)
-tested g c bytes k = sym (unref_dir_is c.args.geometry.now.layout bytes c.args.workspace.now _ _ _ _ _ c.args.number _
-    c.requires.number.0 c.requires.number.1 (omega arith) c.deref.ensures.value refl
-    refl refl refl c.is_unref-unref.ensures k.1 k.2)
+tested g c bytes k = grind (arith, unref_held)
 
 -- the line of one that is read
 heard_of : (g : given.Over) (c : After-of g) →

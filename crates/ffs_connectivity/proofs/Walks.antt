@@ -11,8 +11,8 @@ use Rattle.ffs_volume.proofs.ClimbLaws.{climb-zero, climb-one, climb-suc, climb-
 use Rattle.ffs_volume.proofs.ClimbLaws.{cycle-next, cycle-goes, cycle-within, is_leader_within-from}
 use Rattle.ffs_volume.{proofs.ClimbLaws.is_leader_within-true, specs.Directories.Climb.{climb, IsOnCycle}}
 use Rattle.ffs_volume.specs.Directories.Climb.{is_leader_within}
-use Rattle.ffs_survey.specs.Cycles.{parent_in, unmet, IsClosed, IsMet, Walked, FindsCycle, IsLeastOn}
-use Rattle.ffs_survey.{proofs.Discovered.bit-le, specs.{Discover.bit, Survey.{bool_at, number_at}}}
+use Rattle.ffs_connectivity.specs.Cycles.{parent_in, unmet, IsClosed, IsMet, Walked, FindsCycle, IsLeastOn}
+use Rattle.ffs_survey.specs.{Discover.bit, Survey.{bool_at, number_at}}
 
 -- ---- parents
 pub parent_in-none : (parents : List ℕ) (x : ℕ) → (number_at parents x ≡ 0) ⊎ (length parents ≤ number_at parents x) →
@@ -35,7 +35,7 @@ past_leader parents n x b = false_from_ne_true (is_leader_within (parent_in pare
 -- ---- what walks have passed
 pub unmet-le : (xs : List ℕ) → unmet xs ≤ length xs
 unfolding unmet
-unmet-le xs = omega (arith, sum_by-le (λ y. bit (y == 0)) 1 xs (λ k d l. bit-le (get_or xs k d == 0)))
+unmet-le xs = omega (arith, sum_by-le (λ y. bit (y == 0)) 1 xs (λ k d l. grind arith))
 
 pub unmet-set : (walk_of : List ℕ) (x m : ℕ) → x < length walk_of → number_at walk_of x ≡ 0 → (m ≡ 0 → ⊥) →
     unmet (set walk_of x m) + 1 ≡ unmet walk_of

@@ -1,8 +1,8 @@
 use Rattle.std.proofs.Common.{◌≡◌, ◌⊎◌, inl, inr, suc, ◌<◌, ◌≤◌, length, arith, ap, sym, ◌∙◌, Some}
 use Rattle.ffs_volume.proofs.ClimbLaws.{cycle-along}
-use Rattle.ffs_survey.{specs.Cycles.parent_in, proofs.Walks.{parent_on_cycle, round_start, round_step, round_end, steps_back-less}}
-use Rattle.ffs_survey.proofs.cycles.least_on.Goals.{then-at-least, else-at-least}
-use Rattle.ffs_survey.proofs.cycles.least_on.Goals as goal
+use Rattle.ffs_connectivity.{specs.Cycles.parent_in, proofs.Walks.{parent_on_cycle, round_start, round_step, round_end, steps_back-less}}
+use Rattle.ffs_connectivity.proofs.cycles.least_on.Goals.{then-at-least, else-at-least}
+use Rattle.ffs_connectivity.proofs.cycles.least_on.Goals as goal
 
 pub round-init : goal.round-init
 round-init c =

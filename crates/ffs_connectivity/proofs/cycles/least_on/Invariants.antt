@@ -1,6 +1,6 @@
 use Rattle.std.proofs.Common.{ℕ, ◌<◌, length}
-use Rattle.ffs_survey.{proofs.Walks.{Rounding, steps_back}, specs.Cycles.parent_in}
-use Rattle.ffs_survey.proofs.cycles.least_on.Given as goal
+use Rattle.ffs_connectivity.{proofs.Walks.{Rounding, steps_back}, specs.Cycles.parent_in}
+use Rattle.ffs_connectivity.proofs.cycles.least_on.Given as goal
 
 abbrev pub invariant-round : goal.invariant-round
 invariant-round l = record {

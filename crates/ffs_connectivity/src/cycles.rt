@@ -1,9 +1,9 @@
 //! Cycles of parents.
 ghost use Rattle.std.specs.Prelude.{length};
-ghost use Rattle.ffs_survey.specs.Cycles.{parent_in, CanFollow, CanFlagLeaders, ComesBack, IsLeastOn, FlagsEachLeader, NotesWalk};
+ghost use Rattle.ffs_connectivity.specs.Cycles.{parent_in, CanFollow, CanFlagLeaders, ComesBack, IsLeastOn, FlagsEachLeader, NotesWalk};
 
-use crate::numbers::number_of;
 use ffs_memory::FilledList;
+use ffs_survey::number_of;
 
 /// Walks from `start` from parent to parent, and notes in `walk_of` what it passes, until there is
 /// no parent or one that a walk has passed. Returns a number on the cycle that it closed, if it

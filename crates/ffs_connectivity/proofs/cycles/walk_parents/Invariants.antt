@@ -1,6 +1,6 @@
 use Rattle.std.proofs.Common.{◌≡◌, ℕ, ◌+◌, ◌<◌, length, vec_len}
-use Rattle.ffs_survey.{proofs.Walks.Walking, specs.Cycles.parent_in, specs.Cycles.unmet}
-use Rattle.ffs_survey.proofs.cycles.walk_parents.Given as goal
+use Rattle.ffs_connectivity.{proofs.Walks.Walking, specs.Cycles.{parent_in, unmet}}
+use Rattle.ffs_connectivity.proofs.cycles.walk_parents.Given as goal
 
 abbrev pub invariant-up : goal.invariant-up
 invariant-up l = record {

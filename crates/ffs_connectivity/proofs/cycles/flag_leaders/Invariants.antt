@@ -1,6 +1,7 @@
 use Rattle.std.proofs.Common.{◌≡◌, ◌≢◌, vec_len, ℕ, ◌<◌, ◌≤◌, length, All}
-use Rattle.ffs_survey.{specs.{Cycles.{parent_in, IsClosed}, Survey.number_at}, proofs.Walks.MarksLeaders}
-use Rattle.ffs_survey.proofs.cycles.flag_leaders.Given as goal
+use Rattle.ffs_survey.specs.Survey.{number_at}
+use Rattle.ffs_connectivity.{specs.Cycles.{parent_in, IsClosed}, proofs.Walks.MarksLeaders}
+use Rattle.ffs_connectivity.proofs.cycles.flag_leaders.Given as goal
 
 abbrev pub invariant-loop-start : goal.invariant-loop-start
 invariant-loop-start l = record {

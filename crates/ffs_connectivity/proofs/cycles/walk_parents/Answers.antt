@@ -1,10 +1,11 @@
 use Rattle.std.proofs.Common.{◌≡◌, ◌≢◌, ℕ, suc, ◌+◌, ◌<◌, ◌≤◌, List, length, arith, sym, ◌∙◌, subst, set, None, Some}
 use Rattle.std.proofs.{Common.{inl, inr, refl, ◌⊎◌}, lemmas.Bool.Decides.nat_tests}
 use Rattle.ffs_volume.specs.Directories.Climb.{IsOnCycle}
-use Rattle.ffs_survey.proofs.Walks.{parent_in-none, Walking, HasPassed, has_passed, walked, walks_on, walk_start}
-use Rattle.ffs_survey.proofs.Walks.{no_cycle_end, no_cycle_old, finds_cycle, unmet-le, unmet-set}
-use Rattle.ffs_survey.specs.{Cycles.{parent_in, CanFollow, IsMet, IsClosed, Walked}, Survey.number_at}
-use Rattle.ffs_survey.proofs.cycles.walk_parents.Goals as goal
+use Rattle.ffs_connectivity.proofs.Walks.{parent_in-none, Walking, HasPassed, has_passed, walked, walks_on, walk_start}
+use Rattle.ffs_connectivity.proofs.Walks.{no_cycle_end, no_cycle_old, finds_cycle, unmet-le, unmet-set}
+use Rattle.ffs_survey.specs.Survey.{number_at}
+use Rattle.ffs_connectivity.specs.Cycles.{parent_in, CanFollow, IsMet, IsClosed, Walked}
+use Rattle.ffs_connectivity.proofs.cycles.walk_parents.Goals as goal
 
 -- what is known once the walk has passed `at`
 pub record Here (parent : List ℕ) (start steps at : ℕ) (old now : List ℕ) : Type 0 where

@@ -1,6 +1,6 @@
 use Rattle.std.proofs.Common.{arith}
-use Rattle.ffs_survey.proofs.Walks.{marks_none, marks_found, older_after}
-use Rattle.ffs_survey.proofs.cycles.flag_leaders.Goals as goal
+use Rattle.ffs_connectivity.proofs.Walks.{marks_none, marks_found, older_after}
+use Rattle.ffs_connectivity.proofs.cycles.flag_leaders.Goals as goal
 
 pub loop-start-preserved : goal.loop-start-preserved
 loop-start-preserved c =
