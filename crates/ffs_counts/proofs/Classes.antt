@@ -25,7 +25,7 @@ is_part Dir = false
 
 of_part : {T : Type 0} (test : Class → T) → test Free ≡ test Partial → (c : Class) (i : Inode) → is_part c ≡ true →
     test (class_of_kind (kind_of c i)) ≡ test c
-of_part {part = c} {rest' = i} = grind arith
+of_part test same c i part = grind arith
 
 pub same_test : {T : Type 0} (test : Class → T) → test Free ≡ test Partial → (v : Layout) (image : List ℕ) (x : ℕ) →
     test (class_of_kind (kind_at v image x)) ≡ test (class_at v image x)
