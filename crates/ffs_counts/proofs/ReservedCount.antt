@@ -1,17 +1,12 @@
 -- How many fragments are claimed, by a map that has the reserved ones.
-use Rattle.std.proofs.Common.{◌≡◌, ℕ, zero, suc, ◌+◌, ◌<◌, Bool, true, false, cond, not}
-use Rattle.std.proofs.Common.{◌&&◌, List, count_by, arith, refl, sym, [], ◌∷◌}
-use Rattle.std.{proofs.{Common.slice_set}, specs.{List.{range_with_len}}}
-use Rattle.std.proofs.lemmas.{List.{Sums.sum_by-cons, FromFn.get_or-map-range_with_len}, Bool.cases_lt}
-use Rattle.std.proofs.lemmas.Bool.{true≢false, cases_eq}
-use Rattle.std.proofs.lemmas.List.{get_or-set_other, get_or-set_same, get_or_past}
-use Rattle.ffs_volume.specs.{declared.{Layout.Layout, Step.Step}}
-use Rattle.ffs_volume.specs.{Report.Whole.claimed_count, Blocks.Claims.{is_set, Claims}}
-use Rattle.ffs_volume.specs.Blocks.Claims.{no_claims, reserved_map, after_offer, after_offers, after_run, after_step}
-use Rattle.ffs_volume.specs.{Blocks.Claims.{after_steps, after_owner, after_owners}}
-use Rattle.ffs_volume.specs.{Disk.Areas.{is_reserved}, Blocks.Owners.Owner}
-use Rattle.ffs_volume.proofs.{Flags.set_kept, Potentials.cond_holds}
-use Rattle.ffs_volume.{specs.Blocks.Claims.all_claims}
+use Rattle.std.proofs.Common.{◌≡◌, ℕ, zero, suc, ◌+◌, ◌<◌, Bool, true, false, cond, not, ◌&&◌, List, count_by, arith}
+use Rattle.std.{proofs.{Common.{refl, sym, [], ◌∷◌}, lemmas.List.Sums.sum_by-cons}, specs.List.range_with_len}
+use Rattle.std.proofs.lemmas.{List.FromFn.get_or-map-range_with_len, Bool.true≢false}
+use Rattle.ffs_volume.specs.{declared.{Layout.Layout, Step.Step}, Report.Whole.claimed_count, Blocks.Claims.is_set}
+use Rattle.ffs_volume.specs.Blocks.Claims.{Claims, no_claims, reserved_map, after_offer, after_offers, after_run}
+use Rattle.ffs_volume.specs.Blocks.Claims.{after_step, after_steps, after_owner, after_owners, all_claims}
+use Rattle.ffs_volume.{specs.{Disk.Areas.is_reserved, Blocks.Owners.Owner}, proofs.Flags.set_kept}
+use Rattle.ffs_volume.proofs.Potentials.{cond_holds}
 use Rattle.ffs_counts.specs.Reserved.{HasReserved, claimed_in}
 
 -- ---- the claimed ones
