@@ -19,7 +19,7 @@ is_part Dir = false
 
 of_part : {T : Type 0} (test : Class → T) → test Free ≡ test Partial → (c : Class) (i : Inode) → is_part c ≡ true →
     test (class_of_kind (kind_of c i)) ≡ test c
-of_part test same c i part = grind arith
+of_part test p1 c i p2 = grind arith
 
 pub same_test : {T : Type 0} (test : Class → T) → test Free ≡ test Partial → (v : Layout) (image : List ℕ) (x : ℕ) →
     test (class_of_kind (kind_at v image x)) ≡ test (class_at v image x)

@@ -1,9 +1,9 @@
 -- What a workspace holds where only its windows have changed, and the lines of an inode by it.
-use Rattle.std.proofs.Common.{◌≡◌, ℕ, ℤ, zero, suc, ◌+◌, ◌-◌, ◌<◌, ◌≤◌, Bool, true, false, List, [], ◌||◌, ◌==◌, not}
+use Rattle.std.proofs.Common.{◌≡◌, ℕ, ℤ, zero, suc, ◌+◌, ◌-◌, ◌<◌, ◌≤◌, Bool, true, false, List, [], ◌||◌, not}
 use Rattle.std.proofs.Common.{if◌then◌else◌, length, map, refl, ap, ◌∙◌, sym, slice_index, vec_len, drop, take, arith}
 use Rattle.std.{proofs.Common.SFits, specs.{List.slice_index_or, Int.w16, declared.{alloc.Global.Global, vec.Vec.Vec}}}
 use Rattle.std.proofs.lemmas.{Bool.Decides.nat_tests, List.{get_or-drop, get_or-take, length-drop, length-take-le}}
-use Rattle.std.proofs.lemmas.{List.get_or_read, Int.to_z_pos, Bool.{and_parts, cases_lt, eqb-true, not-true}}
+use Rattle.std.proofs.lemmas.{List.get_or_read, Int.to_z_pos, Bool.{and_parts, cases_lt, eqb-true}}
 use Rattle.ffs_survey.specs.Survey.{suspect_at}
 use Rattle.ffs_volume.specs.declared.{Attr.Attr, Inode.Inode, Label.Label, Layout.Layout}
 use Rattle.ffs_volume.specs.declared.{constants.TheConstants.LINKS_MET, Class.TheVariants.{Free, Unknown, File, Dir}}
@@ -14,7 +14,7 @@ use Rattle.ffs_volume.specs.Directories.ReferenceCheck.{inode_reference_lines, r
 use Rattle.ffs_volume.specs.Directories.{Roles.{is_allocated_inode, is_inode, references}, Volumes.class_at}
 use Rattle.ffs_volume.specs.{Directories.Volumes.{marked_at, volume_of, volume_with}, Disk.Numbers.i16_at}
 use Rattle.ffs_volume.specs.{Encodings.Kinds.{kind_at, class_of_kind, is_empty_dir_kind}, Messages.Kinds.Message}
-use Rattle.ffs_volume.{specs.Messages.Kinds.{TreeMessage, of_tree, lines_from}, proofs.LinkLaws.{AreMet, links_met}}
+use Rattle.ffs_volume.{specs.Messages.Kinds.{TreeMessage, of_tree, lines_from}, proofs.LinkLaws.{links_met}}
 use Rattle.ffs_volume.proofs.Numbered.{all_from}
 use Rattle.ffs_workspace.specs.{declared.workspace.Workspace.Workspace, Holds.{HoldsBlockCheck, HoldsFindings, bool_at}}
 use Rattle.ffs_workspace.proofs.KindLaws.{suspect_is, some_is}
@@ -112,24 +112,13 @@ pub met_lines : (v : Layout) (b : List ℕ) (w : Workspace) (i : ℕ) → i < in
     is_allocated (class_of_kind (slice_index w.kinds.items i)) ≡ true → is_right_by w i ≡ true →
     reference_lines_at (volume_of v b) i ≡ []
 met_lines v b w i low f used met =
-    let parts = and_parts (slice_index w.references.items i == LINKS_MET) (not (is_dead_by w i)) met in
-    let full = eqb-true (slice_index w.references.items i) LINKS_MET parts.0 in
+    let inode = inode_of v b i in
     let counted = references_are v b w i low f used in
-    let nlink = (inode_of v b i).nlink in
-    let links : AreMet nlink (references (volume_of v b) i) =
-    links_met nlink (references (volume_of v b) i) (sym counted ∙ full) in
-    let label = label_of (class_of_kind (slice_index w.kinds.items i)) in
-    let attr = attributes_of i (inode_of v b i) in
-    sym (some_lines v b w i f.claims used)
-    ∙ inode_reference_lines_are v b w i (inode_of v b i) (is_dead_by w i) (references (volume_of v b) i) low f used refl
-    refl
-    (omega (arith, counted))
-    ∙ none_reported (is_dead_by w i) (bool_at w.marked.items i) label attr nlink (references (volume_of v b) i)
-    (not-true (is_dead_by w i) parts.1) links
-  where
-    none_reported : (dead m : Bool) (label : Label) (attr : Attr) (nlink : ℤ) (r : ℕ) → dead ≡ false →
-        AreMet nlink r → reference_reported dead m label attr nlink r ≡ []
-    none_reported dead m label attr nlink r alive links = rw (alive, links.some, links.same) refl
+    let links = links_met inode.nlink (references (volume_of v b) i) in
+    let lines = inode_reference_lines_are v b w i inode (is_dead_by w i) (references (volume_of v b) i) low f used refl
+    refl in
+    let whole = some_lines v b w i f.claims used in
+    grind (arith, eqb-true)
 
 -- a number whose element is in a part of a list of which each is `LINKS_MET`
 pub met_in : (counts : List ℕ) (first x : ℕ) → first + 64 ≤ length counts → first ≤ x → x < first + 64 →
