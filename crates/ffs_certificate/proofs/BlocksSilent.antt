@@ -58,11 +58,9 @@ pub marked_bit : (used : List Bool) (fs : List ℕ) → are_below (length used) 
     bit (is_set (mark used fs) f) ≡ times f fs + bit (is_set used f)
 marked_bit used [] below e f = omega arith
 marked_bit used (g ∷ fs) below e f =
-    let a = and_parts (nat_lt g (length used)) (are_below (length used) fs) below in
-    let b = and_parts (not (is_set used g)) (fresh (slice_set used g true) fs) e in
-    let free : is_set used g ≡ false = grind (arith, nat_tests) in
-    let rest = marked_bit (slice_set used g true) fs (ap (λ n. are_below n fs) (length-set used g true) ∙ a.1) b.1 f in
-    omega (arith, rest, times_cons f g fs, bit_set used g f (ltb-true g (length used) a.0) free)
+    let rest = marked_bit (slice_set used g true) fs (grind (arith, length-set)) (grind arith) f in
+    let here = bit_set used g f (grind (arith, nat_tests)) (grind (arith, nat_tests)) in
+    omega (arith, rest, times_cons f g fs, here)
 
 -- no number from n on is in a list of numbers below n
 pub times_past : (n f : ℕ) (fs : List ℕ) → are_below n fs ≡ true → n ≤ f → times f fs ≡ 0

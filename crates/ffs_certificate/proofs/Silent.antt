@@ -54,9 +54,7 @@ entries-quiet : (v : Volume) (s j : ℕ) (es : List RoledEntry) → lines_of_ent
 unfolding lines_of_entries
 entries-quiet v s j [] h k i e x z = absurd (cc)
 entries-quiet v s j (f ∷ es) h zero i e x z =
-    let same : j ≡ i = omega arith in
-    let q : f ≡ e = cc in
-    rw (← same, ← q) (entry-quiet v s j f (nil-left (entry_lines v s j f) _ h))
+    let first = entry-quiet v s j f (nil-left (entry_lines v s j f) _ h) in grind arith
 entries-quiet v s j (f ∷ es) h (suc k) i e x z =
     entries-quiet v s (suc j) es (nil-right (entry_lines v s j f) _ h) k i e x (omega arith)
 
