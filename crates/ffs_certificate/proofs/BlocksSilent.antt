@@ -1,17 +1,16 @@
 -- Phases 1 and 1b report nothing exactly where every fragment has one owner at most.
 use Rattle.std.proofs.Common.{inl, inr, ◌≡◌, ℕ, ◌+◌, ◌<◌, ◌≤◌, Bool, true, false, cond, arith, refl, sym, ap, ◌∙◌, List}
-use Rattle.std.proofs.Common.{[], ◌∷◌, length, nat_lt, ◌==◌, not, slice_set, ◌++◌, ◌↔◌, ◌&&◌, replicate}
-use Rattle.std.proofs.lemmas.Bool.{and_parts, eq-eqb, ltb-true, cases_lt, Decides.nat_tests}
-use Rattle.std.proofs.lemmas.List.{get_or-set_same, get_or-set_other, length-set, length-replicate, get_or-replicate}
-use Rattle.std.proofs.lemmas.List.{FromFn.{get_or-map-range_with_len, length-map-range_with_len}, get_or_past}
-use Rattle.std.{proofs.lemmas.List.{Sums.sum_by-cons, Folds.list_all-append}, specs.List.{list_all}}
-use Rattle.ffs_volume.specs.declared.{Step.{Step}, Layout.Layout}
-use Rattle.ffs_volume.specs.Blocks.{BlockCheck.{first_offer_lines, phase1_lines, phase1b_lines}, Claims.is_set}
-use Rattle.ffs_volume.specs.Blocks.{Claims.{reserved_map, no_claims}, Owners.{Owner, fragments_of, all_steps}}
-use Rattle.ffs_volume.specs.{Blocks.KeptOffers.Offer, Consistent.BlocksRight.{times, is_step_in_range, BlocksRight}}
-use Rattle.ffs_volume.specs.Disk.Areas.{is_fragment_in_range, is_reserved}
+use Rattle.std.proofs.{Common.{[], ◌∷◌, length, nat_lt, ◌==◌, not, slice_set, ◌++◌, ◌↔◌, ◌&&◌}, lemmas.Bool.and_parts}
+use Rattle.std.proofs.lemmas.{Bool.{ltb-true, cases_lt, Decides.nat_tests}, List.{get_or-set_same, get_or-set_other}}
+use Rattle.std.proofs.lemmas.List.{length-set, get_or_past, FromFn.get_or-map-range_with_len}
+use Rattle.std.proofs.lemmas.List.{FromFn.length-map-range_with_len, Sums.sum_by-cons, Folds.list_all-append}
+use Rattle.std.specs.List.{list_all}
+use Rattle.ffs_volume.specs.{declared.{Step.Step, Layout.Layout}, Blocks.BlockCheck.{first_offer_lines, phase1_lines}}
+use Rattle.ffs_volume.specs.Blocks.{BlockCheck.phase1b_lines, Claims.{is_set, reserved_map, no_claims}, Owners.Owner}
+use Rattle.ffs_volume.specs.{Blocks.{Owners.{fragments_of, all_steps}, KeptOffers.Offer}, Consistent.BlocksRight.times}
+use Rattle.ffs_volume.specs.{Consistent.BlocksRight.{is_step_in_range, BlocksRight}, Disk.Areas.is_fragment_in_range}
+use Rattle.ffs_volume.{specs.Disk.Areas.is_reserved, proofs.Flags.unset}
 use Rattle.ffs_certificate.proofs.BlockLaws.{mark, fresh, is_nil, nil_append, run_ok, owners_say, owners_claim, Quiet}
-use Rattle.ffs_volume.proofs.Flags.{unset}
 use Rattle.ffs_certificate.proofs.BlockLaws.{owners_parts, owners_from}
 
 abbrev pub bit : Bool → ℕ
@@ -48,29 +47,20 @@ pub new_fresh : (used : List Bool) (fs : List ℕ) → are_below (length used) f
 new_fresh used [] below new = refl
 new_fresh used (g ∷ fs) below new =
     let a = and_parts (nat_lt g (length used)) (are_below (length used) fs) below in
-    let free : is_set used g ≡ false = one (is_set used g) refl in
+    let here = new g in
+    let free : is_set used g ≡ false = (let more = times_cons g g fs in grind arith) in
     let rest = new_fresh (slice_set used g true) fs (ap (λ n. are_below n fs) (length-set used g true) ∙ a.1)
     (λ f. omega (arith, new f, times_cons f g fs, bit_set used g f (ltb-true g (length used) a.0) free)) in
     rw free rest
-  where
-    one : (b : Bool) → is_set used g ≡ b → b ≡ false
-    one false e = refl
-    one true e =
-        let more = times_cons g g fs in
-        let here : bit (g == g) ≡ 1 = ap bit (eq-eqb g g refl) in
-        let there : bit (is_set used g) ≡ 1 = ap bit e in
-        absurd (omega arith)
 
 -- after the marks of new numbers
 pub marked_bit : (used : List Bool) (fs : List ℕ) → are_below (length used) fs ≡ true → fresh used fs ≡ true → (f : ℕ) →
     bit (is_set (mark used fs) f) ≡ times f fs + bit (is_set used f)
 marked_bit used [] below e f = omega arith
 marked_bit used (g ∷ fs) below e f =
-    let a = and_parts (nat_lt g (length used)) (are_below (length used) fs) below in
-    let b = and_parts (not (is_set used g)) (fresh (slice_set used g true) fs) e in
-    let free : is_set used g ≡ false = grind (arith, nat_tests) in
-    let rest = marked_bit (slice_set used g true) fs (ap (λ n. are_below n fs) (length-set used g true) ∙ a.1) b.1 f in
-    omega (arith, rest, times_cons f g fs, bit_set used g f (ltb-true g (length used) a.0) free)
+    let rest = marked_bit (slice_set used g true) fs (grind (arith, length-set)) (grind arith) f in
+    let here = bit_set used g f (grind (arith, nat_tests)) (grind (arith, nat_tests)) in
+    omega (arith, rest, times_cons f g fs, here)
 
 -- no number from n on is in a list of numbers below n
 pub times_past : (n f : ℕ) (fs : List ℕ) → are_below n fs ≡ true → n ≤ f → times f fs ≡ 0

@@ -6,31 +6,30 @@ use Rattle.ffs_volume.specs.Disk.{Numbers.{i16_at, u32_at, u64_at, i32_at}, Area
 use Rattle.ffs_volume.specs.Disk.Areas.{is_group_metadata, is_fragment_in_range, is_run_in_range, is_reserved}
 use Rattle.ffs_volume.specs.{Disk.{Outcome.outcome, Search.{first_below, earliest}}, Blocks.Inodes.inode_from_bytes}
 use Rattle.ffs_volume.specs.Blocks.{Inodes.{inode_of, class_of}, Steps.{steps_at, steps_of}, Owners.owner_of}
-use Rattle.ffs_volume.specs.Blocks.{Owners.owners_of, Claims.{reserved_map, no_claims}, BlockCheck.phase1_lines}
-use Rattle.ffs_volume.specs.Blocks.{BlockCheck.{phase1b_lines, is_marked}, KeptSteps.{claims_before, kept_steps_of}}
-use Rattle.ffs_volume.specs.Directories.{Entries.{is_well_formed, entry_read, entry_at, entries_from}, Roles.role_of}
-use Rattle.ffs_volume.specs.Directories.Roles.{roled_from, roled_entries, start_entry, dot, dotdot, references_below}
-use Rattle.ffs_volume.specs.Directories.Paths.{longest_end, path_bytes, names_down, dir_path, entry_path}
-use Rattle.ffs_volume.specs.Directories.PathnameCheck.{attributes, root_lines, header_defects, header_lines}
-use Rattle.ffs_volume.specs.Directories.PathnameCheck.{dir_header_lines, plain_verdict, entry_lines, lines_of_entries}
-use Rattle.ffs_volume.specs.Directories.{PathnameCheck.{sized_dir_lines, pathname_lines}, Climb.climb, Graph.within}
-use Rattle.ffs_volume.specs.Directories.{Graph.{level, parent}, Connectivity.connectivity_lines}
-use Rattle.ffs_volume.specs.Directories.ReferenceCheck.{inode_reference_lines, reference_lines}
-use Rattle.ffs_volume.specs.Directories.Volumes.{chunk_source_of}
-use Rattle.ffs_volume.specs.{Directories.Volumes.{volume_with, volume_of}, Groups.Records.right_group_counts}
-use Rattle.ffs_volume.specs.Groups.Records.{right_frsum, right_total, maps_fit, has_right_magic, has_right_maps}
-use Rattle.ffs_volume.specs.Groups.Records.{has_right_sums, has_right_record, has_right_totals}
-use Rattle.ffs_volume.specs.{Groups.GroupCheck.phase5_lines, Messages.Kinds.{lines_below, has_defect, image_name, mounted}}
-use Rattle.ffs_volume.specs.Messages.Kinds.{phase1, phase1b, phase2, phase3, phase4, phase5, of_blocks, of_tree}
-use Rattle.ffs_volume.specs.{Messages.{Kinds.summary, Shown.octal, Texts.texts_of}, Report.Whole.file_count}
-use Rattle.ffs_volume.specs.Report.Whole.{claimed_count, later_phase_lines, phase_lines, report_lines, report_of}
-use Rattle.ffs_volume.specs.Report.{Whole.{report_end, lines_by_outcome, end_by_outcome}, Opening.setting_lines}
-use Rattle.ffs_volume.specs.{Report.Opening.head_lines, Examples.Images.{bytes_in, word, zero_bytes, mount_bytes}}
-use Rattle.ffs_volume.specs.Examples.Images.{base_layout, base_superblock, base_super, base_summary, base_group}
-use Rattle.ffs_volume.specs.Examples.{Images.{root_inode, root_chunk, base_image}, DirectoryExamples.entry_bytes}
-use Rattle.ffs_volume.{specs.Examples.BlockExamples.blocks_at, proofs.OpeningExamples.superblock_examples}
+use Rattle.ffs_volume.specs.Blocks.{Owners.owners_of, Claims.{reserved_map, no_claims, all_claims}}
+use Rattle.ffs_volume.specs.Blocks.{BlockCheck.{phase1_lines, phase1b_lines, is_marked}, KeptSteps.claims_before}
+use Rattle.ffs_volume.specs.{Blocks.KeptSteps.kept_steps_of, Directories.Entries.{is_well_formed, entry_read, entry_at}}
+use Rattle.ffs_volume.specs.Directories.{Entries.entries_from, Roles.{role_of, roled_from, roled_entries, start_entry}}
+use Rattle.ffs_volume.specs.Directories.{Roles.{dot, dotdot, references_below}, Paths.{longest_end, path_bytes}}
+use Rattle.ffs_volume.specs.Directories.{Paths.{names_down, dir_path, entry_path}, PathnameCheck.attributes}
+use Rattle.ffs_volume.specs.Directories.PathnameCheck.{root_lines, header_defects, header_lines, dir_header_lines}
+use Rattle.ffs_volume.specs.Directories.PathnameCheck.{plain_verdict, entry_lines, lines_of_entries, sized_dir_lines}
+use Rattle.ffs_volume.specs.Directories.{PathnameCheck.pathname_lines, Climb.climb, Graph.{within, level, parent}}
+use Rattle.ffs_volume.specs.Directories.{Connectivity.connectivity_lines, ReferenceCheck.inode_reference_lines}
+use Rattle.ffs_volume.specs.Directories.{ReferenceCheck.reference_lines, Volumes.{chunk_source_of, volume_with}}
+use Rattle.ffs_volume.specs.{Directories.Volumes.volume_of, Groups.Records.{right_group_counts, right_frsum}}
+use Rattle.ffs_volume.specs.Groups.Records.{right_total, maps_fit, has_right_magic, has_right_maps, has_right_sums}
+use Rattle.ffs_volume.specs.Groups.{Records.{has_right_record, has_right_totals}, GroupCheck.phase5_lines}
+use Rattle.ffs_volume.specs.Messages.Kinds.{lines_below, has_defect, image_name, mounted, phase1, phase1b, phase2}
+use Rattle.ffs_volume.specs.Messages.Kinds.{phase3, phase4, phase5, of_blocks, of_tree, summary, of_entry, of_reference}
+use Rattle.ffs_volume.specs.{Messages.{Shown.octal, Texts.texts_of}, Report.Whole.{file_count, claimed_count}}
+use Rattle.ffs_volume.specs.Report.Whole.{later_phase_lines, phase_lines, report_lines, report_of, report_end}
+use Rattle.ffs_volume.specs.Report.{Whole.{lines_by_outcome, end_by_outcome}, Opening.{setting_lines, head_lines}}
+use Rattle.ffs_volume.specs.Examples.Images.{bytes_in, word, zero_bytes, mount_bytes, base_layout, base_superblock}
+use Rattle.ffs_volume.specs.Examples.Images.{base_super, base_summary, base_group, root_inode, root_chunk, base_image}
+use Rattle.ffs_volume.specs.Examples.{DirectoryExamples.entry_bytes, BlockExamples.blocks_at}
+use Rattle.ffs_volume.proofs.OpeningExamples.{superblock_examples}
 use Rattle.ffs_volume.specs.declared.tree_lines.{EntryLine.TheVariants.DupBad, ReferenceLine.TheVariants.UnrefDir}
-use Rattle.ffs_volume.specs.{Messages.Kinds.{of_entry, of_reference}, Blocks.Claims.all_claims}
 use Rattle.ffs_certificate.specs.ReportExamples.{ReportExamples, dinode_bytes, dir_chunk, two_dirs, named_dir}
 use Rattle.ffs_certificate.specs.ReportExamples.{unnamed_dir, shared_summary, shared_group, shared_image}
 use Rattle.ffs_certificate.specs.ReportExamples.{shared_superblock, about_file, clean_lines}

@@ -155,15 +155,13 @@ skip_offers : (v : Layout) (i b : ℕ) (s : Claims) (e : List OfferVerdict) (fs 
     × (kept_by_rule v e (map (counted_offer i b) fs) ≡ [])
 skip_offers v i b s e [] c h = (h, c, refl)
 skip_offers v i b s e (f ∷ fs) c h =
+    let j = offer_verdict v e (counted_offer i b f) in
     let no_keep = not_kept v i b f e c in
-    let rest = skip_offers v i b s (offer_verdict v e (counted_offer i b f) ∷ e) fs
-    (still_closed i b (offer_verdict v e (counted_offer i b f)) e c)
-    (held_skip v i s.used s.kept e (offer_verdict v e (counted_offer i b f)) no_keep h) in (
+    let rest = skip_offers v i b s (j ∷ e) fs (still_closed i b j e c) (held_skip v i s.used s.kept e j no_keep h) in (
       rest.0,
       rest.1,
       ap (λ k. (if k then uncounted (counted_offer i b f) ∷ [] else [])
-          ++ kept_by_rule v (offer_verdict v e (counted_offer i b f) ∷ e) (map (counted_offer i b) fs)) no_keep
-          ∙ rest.2,
+          ++ kept_by_rule v (j ∷ e) (map (counted_offer i b) fs)) no_keep ∙ rest.2,
     )
 
 -- the fold's state between steps, and what was judged

@@ -2,16 +2,15 @@
 use Rattle.std.proofs.Common.{arith, ◌≡◌, ◌≢◌, ℕ, Bool, true, false, ◌||◌, ◌↔◌, Some, sym, ◌∙◌, inl, inr, zero, suc}
 use Rattle.std.proofs.{Common.{List, [], ◌∷◌}, lemmas.Bool.{both_ways, cases_Bool, and_parts, and_from, or_cases}}
 use Rattle.std.{proofs.lemmas.Bool.{or_right, false_from_ne_true, ne_eqb, eqb-true}, specs.List.list_any}
-use Rattle.ffs_volume.specs.{Disk.Search.some_below, Directories.Graph.{Graph, edge, reached, parent}}
-use Rattle.ffs_volume.specs.Directories.Connectivity.{is_lost_in}
-use Rattle.ffs_volume.specs.Directories.{Connectivity.{is_dead_in, none_or_dead, is_unref_dir_in}, Graph.level}
-use Rattle.ffs_volume.specs.Directories.Graph.{level_edge}
-use Rattle.ffs_volume.specs.Directories.{Graph.{first_index, test_at, is_naming_entry_at}, Roles.RoledEntry}
-use Rattle.ffs_volume.proofs.Graphs.{IsSane, AllReached, NoneDead, NoUnrefDir, IsParentEntry, NoExtraneous, LinksRight}
-use Rattle.ffs_volume.proofs.{Unreached.{IsLost, lost-true, parent-unreached}, SearchLaws.some_below-gives}
-use Rattle.ffs_volume.proofs.SearchLaws.{some_below-false, first_below-some, some_below-from, first_below-is}
-use Rattle.ffs_volume.proofs.LevelLaws.{reached-edge, reached-root, within-zero, level-some, level-before, level-is}
-use Rattle.ffs_volume.proofs.{LevelLaws.reached-level, ClimbLaws.{StaysBelow, some_leader, is_value-from}}
+use Rattle.ffs_volume.specs.{Disk.Search.some_below, Directories.Graph.{Graph, edge, reached, parent, level}}
+use Rattle.ffs_volume.specs.Directories.Graph.{level_edge, first_index, test_at, is_naming_entry_at}
+use Rattle.ffs_volume.specs.Directories.Connectivity.{is_lost_in, is_dead_in, none_or_dead, is_unref_dir_in}
+use Rattle.ffs_volume.{specs.Directories.Roles.RoledEntry, proofs.Graphs.{IsSane, AllReached, NoneDead, NoUnrefDir}}
+use Rattle.ffs_volume.proofs.{Graphs.{IsParentEntry, NoExtraneous, LinksRight}, Unreached.{IsLost, lost-true}}
+use Rattle.ffs_volume.proofs.{Unreached.parent-unreached, SearchLaws.{some_below-gives, some_below-false}}
+use Rattle.ffs_volume.proofs.{SearchLaws.{first_below-some, some_below-from, first_below-is}, LevelLaws.reached-edge}
+use Rattle.ffs_volume.proofs.LevelLaws.{reached-root, within-zero, level-some, level-before, level-is, reached-level}
+use Rattle.ffs_volume.proofs.ClimbLaws.{StaysBelow, some_leader, is_value-from}
 
 -- a lost directory without a line has a lost parent
 lost-next : (v : Graph) (suspect : ℕ → Bool) (d : ℕ) → IsSane v → IsLost v suspect d → is_unref_dir_in v suspect d ≡

@@ -1,28 +1,24 @@
 -- When the checks of directories are silent: pathnames, connectivity and references.
-use Rattle.std.proofs.Common.{◌≡◌, ◌≢◌, ℕ, zero, suc, ◌+◌, ◌<◌, Bool, true, false, ◌&&◌, refl, List, []}
-use Rattle.std.proofs.{Common.{◌∷◌, Option, Some, IsSomeAnd, arith, subst}}
-use Rattle.std.proofs.lemmas.Bool.{not-true, Decides.nat_tests}
+use Rattle.std.proofs.Common.{◌≡◌, ◌≢◌, ℕ, zero, suc, ◌+◌, ◌<◌, Bool, true, false, ◌&&◌, refl, List, [], ◌∷◌, Option}
+use Rattle.std.proofs.{Common.{Some, IsSomeAnd, arith, subst}, lemmas.Bool.{not-true, Decides.nat_tests}}
 use Rattle.ffs_volume.specs.declared.{Class.{TheVariants.Dir, Class}, Role.TheVariants.{Extra, Plain}}
-use Rattle.ffs_volume.specs.Directories.{Entries.Entry, Roles.{Volume, RoledEntry, is_dir, is_suspect, roled_entries}}
-use Rattle.ffs_volume.specs.Directories.{Roles.{dot, dotdot, is_allocated_inode, references}, Graph.is_naming_entry_at}
+use Rattle.ffs_volume.specs.Directories.{Entries.{Entry, is_live}, Roles.{Volume, RoledEntry, is_dir, is_suspect}}
+use Rattle.ffs_volume.specs.Directories.Roles.{roled_entries, dot, dotdot, is_allocated_inode, references, entry_if}
+use Rattle.ffs_volume.specs.Directories.{Roles.{start_entry, is_one_dot, is_two_dots}, Graph.is_naming_entry_at}
 use Rattle.ffs_volume.specs.Directories.{Graph.{test_at, parent}, PathnameCheck.{attributes, entry_lines}}
-use Rattle.ffs_volume.specs.Directories.PathnameCheck.{lines_of_entries, plain_lines, plain_verdict}
-use Rattle.ffs_volume.specs.Directories.PathnameCheck.{root_lines, root_lines_of, is_short, has_partial_chunk}
-use Rattle.ffs_volume.specs.Directories.PathnameCheck.{are_sound, dot_defects, dotdot_defects, is_dot_silent}
-use Rattle.ffs_volume.specs.Directories.PathnameCheck.{is_wrong_parent, header_defects, header_of, dir_header_lines}
-use Rattle.ffs_volume.specs.Directories.PathnameCheck.{sized_dir_lines, directory_lines, pathname_lines}
-use Rattle.ffs_volume.specs.Directories.Naming.{is_first_naming_entry, is_parent_entry}
-use Rattle.ffs_volume.specs.Directories.{Entries.is_live, Roles.{entry_if, start_entry, is_one_dot, is_two_dots}}
+use Rattle.ffs_volume.specs.Directories.PathnameCheck.{lines_of_entries, plain_lines, plain_verdict, root_lines}
+use Rattle.ffs_volume.specs.Directories.PathnameCheck.{root_lines_of, is_short, has_partial_chunk, are_sound}
+use Rattle.ffs_volume.specs.Directories.PathnameCheck.{dot_defects, dotdot_defects, is_dot_silent, is_wrong_parent}
+use Rattle.ffs_volume.specs.Directories.PathnameCheck.{header_defects, header_of, dir_header_lines, sized_dir_lines}
+use Rattle.ffs_volume.specs.Directories.{PathnameCheck.{directory_lines, pathname_lines}, Naming.is_first_naming_entry}
+use Rattle.ffs_volume.specs.Directories.Naming.{is_parent_entry, graph_of, nth_roled}
 use Rattle.ffs_volume.proofs.VerdictLaws.{IsPlainSilent, silent_parts, silent_of, silent_from, silent_lines}
-use Rattle.ffs_volume.proofs.VerdictLaws.{header_silent_from, header_silent}
-use Rattle.ffs_volume.specs.Directories.Connectivity.{is_dead, is_unref_dir, connectivity_lines}
+use Rattle.ffs_volume.{proofs.VerdictLaws.{header_silent_from, header_silent}, specs.Directories.Connectivity.is_dead}
+use Rattle.ffs_volume.specs.Directories.Connectivity.{is_unref_dir, connectivity_lines}
 use Rattle.ffs_volume.specs.Directories.ReferenceCheck.{inode_reference_lines, reference_lines_at, reference_lines}
-use Rattle.ffs_volume.specs.{Directories.Naming.{graph_of, nth_roled}, Messages.Kinds.lines_below}
-use Rattle.ffs_volume.specs.{Disk.Numbers.equals_natural}
-use Rattle.ffs_volume.proofs.Silence.{nil-left, nil-right, nil-both, reported-quiet}
-use Rattle.ffs_volume.proofs.Silence.{then-silent, lines-quiet, lines-silent}
-use Rattle.ffs_volume.specs.declared.tree_lines.ReferenceLine.TheVariants.{UnrefDir}
-use Rattle.ffs_volume.specs.Messages.Kinds.{of_reference}
+use Rattle.ffs_volume.specs.{Messages.Kinds.{lines_below, of_reference}, Disk.Numbers.equals_natural}
+use Rattle.ffs_volume.proofs.Silence.{nil-left, nil-right, nil-both, reported-quiet, then-silent, lines-quiet}
+use Rattle.ffs_volume.{proofs.Silence.lines-silent, specs.declared.tree_lines.ReferenceLine.TheVariants.UnrefDir}
 
 -- ENTRIES: a plain entry
 abbrev pub IsPlainQuiet : (v : Volume) (s j : ℕ) (e : Entry) → Type 0
@@ -58,9 +54,7 @@ entries-quiet : (v : Volume) (s j : ℕ) (es : List RoledEntry) → lines_of_ent
 unfolding lines_of_entries
 entries-quiet v s j [] h k i e x z = absurd (cc)
 entries-quiet v s j (f ∷ es) h zero i e x z =
-    let same : j ≡ i = omega arith in
-    let q : f ≡ e = cc in
-    rw (← same, ← q) (entry-quiet v s j f (nil-left (entry_lines v s j f) _ h))
+    let first = entry-quiet v s j f (nil-left (entry_lines v s j f) _ h) in grind arith
 entries-quiet v s j (f ∷ es) h (suc k) i e x z =
     entries-quiet v s (suc j) es (nil-right (entry_lines v s j f) _ h) k i e x (omega arith)
 

@@ -5,12 +5,11 @@ use Rattle.ffs_volume.specs.declared.BlockMessage.{BlockMessage, TheVariants.{Pa
 use Rattle.ffs_volume.specs.declared.{Role.TheVariants.{Extra, Plain}, constants.TheConstants.{DT_DIR, WINO}}
 use Rattle.ffs_volume.specs.{Disk.{Superblock.Superblock, Outcome.outcome}, Blocks.Owners.owners_of}
 use Rattle.ffs_volume.specs.{Blocks.BlockCheck.phase1_lines, Consistent.BlocksRight.{is_right_class, AreRunsRight}}
-use Rattle.ffs_volume.specs.Consistent.{BlocksRight.BlocksRight, GroupsRight.AreGroupsRight}
-use Rattle.ffs_volume.specs.{Groups.GroupCheck.{phase5_lines, is_free_of_kept}, Consistent.GroupsRight.is_free_of_runs}
-use Rattle.ffs_volume.specs.{Directories.{Entries.Entry, Roles.{Volume, RoledEntry}}, Blocks.Inodes.is_allocated}
-use Rattle.ffs_volume.specs.Directories.Roles.{is_dir, is_allocated_inode, roled_entries, dot, dotdot, references}
-use Rattle.ffs_volume.specs.Directories.{Graph.parent, Naming.{graph_of, is_parent_entry, nth_roled}}
-use Rattle.ffs_volume.specs.Report.Opening.{setting_lines}
+use Rattle.ffs_volume.specs.Consistent.{BlocksRight.BlocksRight, GroupsRight.{AreGroupsRight, is_free_of_runs}}
+use Rattle.ffs_volume.specs.{Groups.GroupCheck.{phase5_lines, is_free_of_kept}, Directories.Entries.Entry}
+use Rattle.ffs_volume.specs.Directories.Roles.{Volume, RoledEntry, is_dir, is_allocated_inode, roled_entries, dot}
+use Rattle.ffs_volume.specs.{Directories.{Roles.{dotdot, references}, Graph.parent}, Blocks.Inodes.is_allocated}
+use Rattle.ffs_volume.specs.{Directories.Naming.{graph_of, is_parent_entry, nth_roled}, Report.Opening.setting_lines}
 use Rattle.ffs_volume.specs.Directories.PathnameCheck.{continues_after_root, is_short, has_partial_chunk, are_sound}
 use Rattle.ffs_volume.specs.Directories.PathnameCheck.{is_wrong_parent, is_bad_whiteout, is_extraneous, has_wrong_type}
 use Rattle.ffs_volume.specs.{Directories.Connectivity.is_unref_dir, Disk.Numbers.equals_natural}

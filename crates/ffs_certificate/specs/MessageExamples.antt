@@ -1,15 +1,15 @@
 -- The bytes of reports and of messages, the ends of runs, and what a check may hold.
 use Rattle.std.specs.Prelude.{◌≡◌, [], ◌∷◌, ◌++◌, pos, negsuc, Some, None, map, codes, true, false}
 use Rattle.ffs_volume.specs.declared.{Attr.Attr, BlockMessage.TheVariants.{PartAlloc, UnknownType, Bad, ManyBad}}
-use Rattle.ffs_volume.specs.declared.BlockMessage.TheVariants.{ManyDup, PartTrunc, BlockCount, GroupMagic}
-use Rattle.ffs_volume.specs.declared.BlockMessage.TheVariants.{FreeCounts, MapsWrong, GroupSums}
-use Rattle.ffs_volume.specs.declared.End.TheVariants.{Consistent, Defects, Refused, RootStop, ReadFault, WriteFault}
-use Rattle.ffs_volume.specs.declared.{End.TheVariants.NoMemory, Label.TheVariants.{Dir as DirLabel, File as FileLabel}}
-use Rattle.ffs_volume.specs.declared.{Label.TheVariants.Name as NameLabel, Order.TheVariants.Little}
-use Rattle.ffs_volume.specs.declared.SuperFault.TheVariants.{Magic, InodeFormat, Ncg, Cpg, Ncyl, TooLarge, Shape}
-use Rattle.ffs_volume.specs.{declared.SuperFault.TheVariants.{Short, Disagree}, Messages.Kinds.{bad_super, cannot_read}}
-use Rattle.ffs_volume.specs.Messages.Kinds.{cannot_alloc, optimization, minfree, mounted, phase1, of_blocks, of_tree}
-use Rattle.ffs_volume.specs.{Messages.{Kinds.{summary, is_defect}, Texts.texts_of}, Report.Opening.opening_of}
+use Rattle.ffs_volume.specs.declared.BlockMessage.TheVariants.{ManyDup, PartTrunc, BlockCount, GroupMagic, FreeCounts}
+use Rattle.ffs_volume.specs.declared.{BlockMessage.TheVariants.{MapsWrong, GroupSums}, End.TheVariants.Consistent}
+use Rattle.ffs_volume.specs.declared.End.TheVariants.{Defects, Refused, RootStop, ReadFault, WriteFault, NoMemory}
+use Rattle.ffs_volume.specs.declared.Label.TheVariants.{Dir as DirLabel, File as FileLabel, Name as NameLabel}
+use Rattle.ffs_volume.specs.declared.{Order.TheVariants.Little, SuperFault.TheVariants.{Magic, InodeFormat, Ncg, Cpg}}
+use Rattle.ffs_volume.specs.declared.SuperFault.TheVariants.{Ncyl, TooLarge, Shape, Short, Disagree}
+use Rattle.ffs_volume.specs.Messages.Kinds.{bad_super, cannot_read, cannot_alloc, optimization, minfree, mounted}
+use Rattle.ffs_volume.specs.Messages.Kinds.{phase1, of_blocks, of_tree, summary, is_defect, of_directory, of_dot}
+use Rattle.ffs_volume.specs.{Messages.{Kinds.{of_entry, of_reference}, Texts.texts_of}, Report.Opening.opening_of}
 use Rattle.ffs_volume.specs.Report.{Memory.{held_limit, runs_limit}, Whole.{report_lines, report_of, end_by, status_of}}
 use Rattle.ffs_volume.specs.Examples.Images.{base_layout, base_image}
 use Rattle.ffs_volume.specs.declared.tree_lines.DirectoryLine.TheVariants.{RootNone, RootNotDir, RootSuspect, DirShort}
@@ -21,8 +21,6 @@ use Rattle.ffs_volume.specs.declared.tree_lines.EntryLine.TheVariants.{OutOfRang
 use Rattle.ffs_volume.specs.declared.tree_lines.EntryLine.TheVariants.{ZeroDir, Extraneous, TypeEntry}
 use Rattle.ffs_volume.specs.declared.tree_lines.ReferenceLine.TheVariants.{UnrefDir, DeadMarked, DeadZero, Unref}
 use Rattle.ffs_volume.specs.declared.tree_lines.ReferenceLine.TheVariants.{UnrefZero, LinkCount}
-use Rattle.ffs_volume.specs.Messages.Kinds.{of_directory, of_dot}
-use Rattle.ffs_volume.specs.Messages.Kinds.{of_entry, of_reference}
 use Rattle.ffs_certificate.specs.ReportExamples.{shared_image, shared_superblock, about_file}
 
 abbrev pub about_most : Attr

@@ -3,16 +3,15 @@ use Rattle.std.specs.Prelude.{codes, ◌≡◌, ℕ, List, [], ◌∷◌, ◌++�
 use Rattle.ffs_volume.specs.declared.{Order.{Order, TheVariants.{Little, Big}}, Attr.Attr, BlockMessage.TheVariants.Dup}
 use Rattle.ffs_volume.specs.declared.{End.TheVariants.Consistent, Label.TheVariants.File as FileLabel}
 use Rattle.ffs_volume.specs.{Disk.Superblock.Superblock, Messages.Kinds.{Message, image_name, mounted, phase1, phase1b}}
-use Rattle.ffs_volume.specs.Messages.Kinds.{phase2, phase3, phase4, phase5, of_blocks, of_tree, summary}
-use Rattle.ffs_volume.specs.Directories.{PathnameCheck.pathname_lines, Connectivity.connectivity_lines}
-use Rattle.ffs_volume.specs.{Directories.{ReferenceCheck.reference_lines, Volumes.volume_of}, Report.Whole.phase_lines}
-use Rattle.ffs_volume.specs.{Report.Whole.{report_lines, report_of, report_end}, Consistent.Volume.IsConsistent}
-use Rattle.ffs_volume.specs.Examples.Images.{bytes_in, word, zero_bytes, mount_bytes, base_layout, base_superblock}
-use Rattle.ffs_volume.specs.Examples.{Images.{base_image, root_chunk}, DirectoryExamples.{entry_bytes, one_dot}}
-use Rattle.ffs_volume.specs.{Examples.DirectoryExamples.two_dots, declared.tree_lines.EntryLine.TheVariants.DupBad}
-use Rattle.ffs_volume.specs.declared.tree_lines.{DirectoryLine.TheVariants.RootNone, ReferenceLine.TheVariants.UnrefDir}
-use Rattle.ffs_volume.specs.Messages.Kinds.{of_entry, of_directory}
-use Rattle.ffs_volume.specs.Messages.Kinds.{of_reference}
+use Rattle.ffs_volume.specs.Messages.Kinds.{phase2, phase3, phase4, phase5, of_blocks, of_tree, summary, of_entry}
+use Rattle.ffs_volume.specs.{Messages.Kinds.{of_directory, of_reference}, Directories.PathnameCheck.pathname_lines}
+use Rattle.ffs_volume.specs.Directories.{Connectivity.connectivity_lines, ReferenceCheck.reference_lines}
+use Rattle.ffs_volume.specs.{Directories.Volumes.volume_of, Report.Whole.{phase_lines, report_lines, report_of}}
+use Rattle.ffs_volume.specs.{Report.Whole.report_end, Consistent.Volume.IsConsistent, Examples.Images.{bytes_in, word}}
+use Rattle.ffs_volume.specs.Examples.Images.{zero_bytes, mount_bytes, base_layout, base_superblock, base_image}
+use Rattle.ffs_volume.specs.Examples.{Images.root_chunk, DirectoryExamples.{entry_bytes, one_dot, two_dots}}
+use Rattle.ffs_volume.specs.declared.tree_lines.{EntryLine.TheVariants.DupBad, DirectoryLine.TheVariants.RootNone}
+use Rattle.ffs_volume.specs.declared.tree_lines.ReferenceLine.TheVariants.{UnrefDir}
 
 -- an inode of this mode, count of links and size, with its first address
 unfoldable pub dinode_bytes : Order → (mode nlink size address : ℕ) → List ℕ

@@ -1,8 +1,6 @@
 -- How often the groups' blocks and summary records are read, group after group.
-use Rattle.std.proofs.Common.{ℕ, ◌≡◌, ◌+◌, ◌%◌, ◌≤◌, arith}
-use Rattle.std.{specs.Int.div_ceil}
-use Rattle.ffs_volume.specs.declared.{Layout.Layout}
-use Rattle.ffs_volume.specs.{Report.Reads.records_at_once}
+use Rattle.std.{proofs.Common.{ℕ, ◌≡◌, ◌+◌, ◌%◌, ◌≤◌, arith}, specs.Int.div_ceil}
+use Rattle.ffs_volume.specs.{declared.Layout.Layout, Report.Reads.records_at_once}
 use Rattle.ffs_walk.specs.declared.window.Window.{Window}
 use Rattle.ffs_counts.specs.Records.{IsAtRecords}
 

@@ -1,12 +1,10 @@
 -- What a workspace holds where only its windows have changed, and the lines of an inode by it.
-use Rattle.std.proofs.Common.{◌≡◌, ℕ, ℤ, pos, zero, suc, ◌+◌, ◌-◌, ◌<◌, ◌≤◌, ◌^◌, Bool, true, false, List, [], ◌&&◌}
-use Rattle.std.proofs.Common.{◌||◌, ◌==◌, not, if◌then◌else◌, length, map, refl, ap, ◌∙◌, sym, slice_index, vec_len}
-use Rattle.std.proofs.Common.{drop, take}
-use Rattle.std.{proofs.Common.{arith, SFits}, specs.{List.slice_index_or, Int.{w16, cast_signed}}}
-use Rattle.std.{specs.declared.{alloc.Global.Global, vec.Vec.Vec}, proofs.lemmas.{Bool.Decides.nat_tests}}
-use Rattle.std.proofs.lemmas.List.{get_or-drop, get_or-take, length-drop, length-take-le}
+use Rattle.std.proofs.Common.{◌≡◌, ℕ, ℤ, zero, suc, ◌+◌, ◌-◌, ◌<◌, ◌≤◌, Bool, true, false, List, [], ◌||◌, not}
+use Rattle.std.proofs.Common.{if◌then◌else◌, length, map, refl, ap, ◌∙◌, sym, slice_index, vec_len, drop, take, arith}
+use Rattle.std.{proofs.Common.SFits, specs.{List.slice_index_or, Int.w16, declared.{alloc.Global.Global, vec.Vec.Vec}}}
+use Rattle.std.proofs.lemmas.{Bool.Decides.nat_tests, List.{get_or-drop, get_or-take, length-drop, length-take-le}}
+use Rattle.std.proofs.lemmas.{List.get_or_read, Int.to_z_pos, Bool.{and_parts, cases_lt, eqb-true}}
 use Rattle.ffs_survey.specs.Survey.{suspect_at}
-use Rattle.std.proofs.lemmas.{Int.to_z_pos, List.get_or_read, Bool.{and_parts, cases_lt, eq-eqb, eqb-true, not-true}}
 use Rattle.ffs_volume.specs.declared.{Attr.Attr, Inode.Inode, Label.Label, Layout.Layout}
 use Rattle.ffs_volume.specs.declared.{constants.TheConstants.LINKS_MET, Class.TheVariants.{Free, Unknown, File, Dir}}
 use Rattle.ffs_volume.specs.{Directories.Connectivity.is_dead, Encodings.Links.{links_start, start_at}}
@@ -14,10 +12,10 @@ use Rattle.ffs_volume.specs.Blocks.Inodes.{inode_of, inode_from_bytes, is_alloca
 use Rattle.ffs_volume.specs.Directories.PathnameCheck.{attributes, attributes_of, label_of}
 use Rattle.ffs_volume.specs.Directories.ReferenceCheck.{inode_reference_lines, reference_lines, reference_lines_at}
 use Rattle.ffs_volume.specs.Directories.{Roles.{is_allocated_inode, is_inode, references}, Volumes.class_at}
-use Rattle.ffs_volume.specs.{Directories.Volumes.{marked_at, volume_of, volume_with}, Disk.Numbers.equals_natural}
-use Rattle.ffs_volume.specs.{Disk.Numbers.i16_at, Encodings.Kinds.{kind_at, class_of_kind, is_empty_dir_kind}}
-use Rattle.ffs_volume.{specs.Messages.Kinds.{Message, TreeMessage, of_tree, lines_from}, proofs.LinkLaws.AreMet}
-use Rattle.ffs_volume.proofs.{LinkLaws.links_met, Numbered.all_from}
+use Rattle.ffs_volume.specs.{Directories.Volumes.{marked_at, volume_of, volume_with}, Disk.Numbers.i16_at}
+use Rattle.ffs_volume.specs.{Encodings.Kinds.{kind_at, class_of_kind, is_empty_dir_kind}, Messages.Kinds.Message}
+use Rattle.ffs_volume.{specs.Messages.Kinds.{TreeMessage, of_tree, lines_from}, proofs.LinkLaws.{links_met}}
+use Rattle.ffs_volume.proofs.Numbered.{all_from}
 use Rattle.ffs_workspace.specs.{declared.workspace.Workspace.Workspace, Holds.{HoldsBlockCheck, HoldsFindings, bool_at}}
 use Rattle.ffs_workspace.proofs.KindLaws.{suspect_is, some_is}
 use Rattle.ffs_counts.{specs.References.{reference_reported, is_dead_by, is_right_by}, proofs.Classes.same_test}
@@ -114,24 +112,13 @@ pub met_lines : (v : Layout) (b : List ℕ) (w : Workspace) (i : ℕ) → i < in
     is_allocated (class_of_kind (slice_index w.kinds.items i)) ≡ true → is_right_by w i ≡ true →
     reference_lines_at (volume_of v b) i ≡ []
 met_lines v b w i low f used met =
-    let parts = and_parts (slice_index w.references.items i == LINKS_MET) (not (is_dead_by w i)) met in
-    let full = eqb-true (slice_index w.references.items i) LINKS_MET parts.0 in
+    let inode = inode_of v b i in
     let counted = references_are v b w i low f used in
-    let nlink = (inode_of v b i).nlink in
-    let links : AreMet nlink (references (volume_of v b) i) =
-    links_met nlink (references (volume_of v b) i) (sym counted ∙ full) in
-    let label = label_of (class_of_kind (slice_index w.kinds.items i)) in
-    let attr = attributes_of i (inode_of v b i) in
-    sym (some_lines v b w i f.claims used)
-    ∙ inode_reference_lines_are v b w i (inode_of v b i) (is_dead_by w i) (references (volume_of v b) i) low f used refl
-    refl
-    (omega (arith, counted))
-    ∙ none_reported (is_dead_by w i) (bool_at w.marked.items i) label attr nlink (references (volume_of v b) i)
-    (not-true (is_dead_by w i) parts.1) links
-  where
-    none_reported : (dead m : Bool) (label : Label) (attr : Attr) (nlink : ℤ) (r : ℕ) → dead ≡ false →
-        AreMet nlink r → reference_reported dead m label attr nlink r ≡ []
-    none_reported dead m label attr nlink r alive links = rw (alive, links.some, links.same) refl
+    let links = links_met inode.nlink (references (volume_of v b) i) in
+    let lines = inode_reference_lines_are v b w i inode (is_dead_by w i) (references (volume_of v b) i) low f used refl
+    refl in
+    let whole = some_lines v b w i f.claims used in
+    grind (arith, eqb-true)
 
 -- a number whose element is in a part of a list of which each is `LINKS_MET`
 pub met_in : (counts : List ℕ) (first x : ℕ) → first + 64 ≤ length counts → first ≤ x → x < first + 64 →
@@ -173,51 +160,26 @@ passed_lines v b w d k n f right low all =
     ap (map of_tree) (ap (lines_from lines d) q ∙ skip_none lines k d (n - (d + k)) none)
 
 -- ---- an inode that is dead, or has other references than links
--- a signed number of two bytes is below 2^15
-signed_small : (k n : ℕ) → cast_signed w16 k ≡ pos n → n < 2 ^ 15
-signed_small k n e = grind (arith, cases_lt, to_z_pos, nat_tests)
-
--- so is a count of links
-links_small : (v : Layout) (b : List ℕ) (i n : ℕ) → (inode_of v b i).nlink ≡ pos n → n < 2 ^ 15
-unfolding inode_of inode_from_bytes i16_at
-links_small v b i n e = signed_small _ n e
-
--- there are other references than links, where their count isn't that of all links
-unequal : (links : ℤ) (r : ℕ) → ((n : ℕ) → links ≡ pos n → n < 2 ^ 15) →
-    ((links_start links + r) == LINKS_MET) ≡ false → (r == 0) ≡ false → equals_natural links r ≡ false
-unequal links r p1 p2 p3 = grind (arith, eqb-true, nat_tests, eq-eqb)
-
--- the one line
-one_reported : (dead m : Bool) (label : Label) (attr : Attr) (nlink : ℤ) (r : ℕ) →
-    (dead ≡ false → (r == 0) ≡ false → equals_natural nlink r ≡ false) →
-    length (reference_reported dead m label attr nlink r) ≡ 1
-one_reported dead m label attr nlink r p1 = grind arith
-
-open_test : (a d : Bool) → (a && not d) ≡ false → d ≡ false → a ≡ false
-open_test false d e alive = refl
-open_test true false e alive = e
-open_test true true e alive = absurd (cc)
-
--- an allocated inode that isn't right by the lists of a workspace has one line
-pub unmet_line : (v : Layout) (b : List ℕ) (w : Workspace) (i : ℕ) → i < inodes_of v → HoldsFindings v b w →
-    is_allocated (class_of_kind (slice_index w.kinds.items i)) ≡ true → is_right_by w i ≡ false →
-    length (reference_lines_at (volume_of v b) i) ≡ 1
-unmet_line v b w i low f used unmet =
-    let nlink = (inode_of v b i).nlink in
-    let r = references (volume_of v b) i in
-    let counted = references_are v b w i low f used in
-    ap length (sym (some_lines v b w i f.claims used)
-    ∙ inode_reference_lines_are v b w i (inode_of v b i) (is_dead_by w i) r low f used refl refl
-    (omega (arith, counted)))
-    ∙ one_reported (is_dead_by w i) (bool_at w.marked.items i) (label_of (class_of_kind (slice_index w.kinds.items i)))
-    (attributes_of i (inode_of v b i)) nlink r
-    (λ alive some. unequal nlink r (links_small v b i)
-    (ap (λ n. n == LINKS_MET) (sym counted)
-    ∙ open_test (slice_index w.references.items i == LINKS_MET) (is_dead_by w i) unmet alive) some)
-
 -- an inode that isn't right by the lists of a workspace has a line, whatever is read of it
 pub unmet_reported : (w : Workspace) (i : ℕ) (m : Bool) (label : Label) (attr : Attr) (nlink : ℤ) (dead : Bool)
     (count r : ℕ) → is_right_by w i ≡ false → dead ≡ is_dead_by w i → count ≡ slice_index w.references.items i →
     r ≡ count - links_start nlink → SFits w16 nlink →
     length (reference_reported dead m label attr nlink r) ≡ 1
 unmet_reported w i m label attr nlink dead count r unmet ed ec er fits = grind arith
+
+-- a count of links has two bytes
+links_fit : (v : Layout) (b : List ℕ) (i : ℕ) → SFits w16 (inode_of v b i).nlink
+unfolding inode_of inode_from_bytes i16_at
+links_fit v b i = grind (arith, cases_lt, to_z_pos, nat_tests)
+
+-- so an allocated inode that isn't right by these lists has one line
+pub unmet_line : (v : Layout) (b : List ℕ) (w : Workspace) (i : ℕ) → i < inodes_of v → HoldsFindings v b w →
+    is_allocated (class_of_kind (slice_index w.kinds.items i)) ≡ true → is_right_by w i ≡ false →
+    length (reference_lines_at (volume_of v b) i) ≡ 1
+unmet_line v b w i low f used unmet =
+    let r = references (volume_of v b) i in
+    let counted = references_are v b w i low f used in
+    let refs : r ≡ slice_index w.references.items i - links_start (inode_of v b i).nlink = omega (arith, counted) in
+    ap length (sym (some_lines v b w i f.claims used)
+    ∙ inode_reference_lines_are v b w i (inode_of v b i) (is_dead_by w i) r low f used refl refl refs)
+    ∙ unmet_reported w i _ _ _ _ _ _ r unmet refl refl refs (links_fit v b i)

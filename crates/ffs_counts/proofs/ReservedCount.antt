@@ -1,17 +1,12 @@
 -- How many fragments are claimed, by a map that has the reserved ones.
-use Rattle.std.proofs.Common.{◌≡◌, ℕ, zero, suc, ◌+◌, ◌<◌, Bool, true, false, cond, not}
-use Rattle.std.proofs.Common.{◌&&◌, List, count_by, arith, refl, sym, [], ◌∷◌}
-use Rattle.std.{proofs.{Common.slice_set}, specs.{List.{range_with_len}}}
-use Rattle.std.proofs.lemmas.{List.{Sums.sum_by-cons, FromFn.get_or-map-range_with_len}, Bool.cases_lt}
-use Rattle.std.proofs.lemmas.Bool.{true≢false, cases_eq}
-use Rattle.std.proofs.lemmas.List.{get_or-set_other, get_or-set_same, get_or_past}
-use Rattle.ffs_volume.specs.{declared.{Layout.Layout, Step.Step}}
-use Rattle.ffs_volume.specs.{Report.Whole.claimed_count, Blocks.Claims.{is_set, Claims}}
-use Rattle.ffs_volume.specs.Blocks.Claims.{no_claims, reserved_map, after_offer, after_offers, after_run, after_step}
-use Rattle.ffs_volume.specs.{Blocks.Claims.{after_steps, after_owner, after_owners}}
-use Rattle.ffs_volume.specs.{Disk.Areas.{is_reserved}, Blocks.Owners.Owner}
-use Rattle.ffs_volume.proofs.{Flags.set_kept, Potentials.cond_holds}
-use Rattle.ffs_volume.{specs.Blocks.Claims.all_claims}
+use Rattle.std.proofs.Common.{◌≡◌, ℕ, zero, suc, ◌+◌, ◌<◌, Bool, true, cond, not, ◌&&◌, List, count_by, arith}
+use Rattle.std.{proofs.{Common.{refl, [], ◌∷◌}, lemmas.List.Sums.sum_by-cons}, specs.List.range_with_len}
+use Rattle.std.proofs.lemmas.{List.FromFn.get_or-map-range_with_len}
+use Rattle.ffs_volume.specs.{declared.{Layout.Layout, Step.Step}, Report.Whole.claimed_count, Blocks.Claims.is_set}
+use Rattle.ffs_volume.specs.Blocks.Claims.{Claims, no_claims, reserved_map, after_offer, after_offers, after_run}
+use Rattle.ffs_volume.specs.Blocks.Claims.{after_step, after_steps, after_owner, after_owners, all_claims}
+use Rattle.ffs_volume.{specs.{Disk.Areas.is_reserved, Blocks.Owners.Owner}, proofs.Flags.set_kept}
+use Rattle.ffs_volume.proofs.Potentials.{cond_holds}
 use Rattle.ffs_counts.specs.Reserved.{HasReserved, claimed_in}
 
 -- ---- the claimed ones
@@ -26,7 +21,9 @@ set_apart v used a (suc n) all =
     let at : a ≡ a + 0 = omega arith in
     let rest = set_apart v used (a + 1) n
     (λ k h. let l : a + 1 + k ≡ a + (k + 1) = omega arith in rw l (all (k + 1) (omega (arith, h)))) in
-    let first = one (is_set used a) (is_reserved v a) (rw at (all 0 (omega arith))) in
+    let here : is_reserved v a ≡ true → is_set used a ≡ true = rw at (all 0 (omega arith)) in
+    let first : cond (is_set used a) 1 0 ≡ cond (is_set used a && not (is_reserved v a)) 1 0 + cond (is_reserved v a) 1 0 =
+    grind arith in
     omega (
       arith,
       rest,
@@ -35,12 +32,6 @@ set_apart v used a (suc n) all =
       sum_by-cons (λ f. cond (is_set used f && not (is_reserved v f)) 1 0) a (range_with_len (a + 1) n),
       sum_by-cons (λ f. cond (is_reserved v f) 1 0) a (range_with_len (a + 1) n),
     )
-  where
-    one : (u r : Bool) → (r ≡ true → u ≡ true) → cond u 1 0 ≡ cond (u && not r) 1 0 + cond r 1 0
-    one true true h = refl
-    one true false h = refl
-    one false true h = absurd (true≢false (sym (h refl)))
-    one false false h = refl
 
 -- ---- a fragment that is used stays used, so each reserved one is used after all inodes
 -- each fragment that is used is used afterwards

@@ -1,14 +1,13 @@
 //! Phase 5: the records of the cylinder groups.
 
 ghost use Rattle.std.specs.Prelude.{◌≡◌, ◌+◌, ◌≤◌};
-ghost use Rattle.ffs_volume.specs.Report.Reads.{group_reads};
-ghost use Rattle.ffs_volume.specs.Report.Whole.{phase5_messages};
+ghost use Rattle.ffs_volume.specs.Report.{Reads.group_reads, Whole.phase5_messages};
 ghost use Rattle.ffs_layout.specs.Super.{superblock_in};
-ghost use Rattle.ffs_report.specs.{Progress.progress, Fails.FailsIn};
-ghost use Rattle.ffs_report.specs.PhaseOutcome.{HeadingFirst, ImageAfter, PhaseReports};
-ghost use Rattle.ffs_volume.specs.Messages.Kinds as messages;
+ghost use Rattle.ffs_report.specs.{Progress.progress, Fails.FailsIn, PhaseOutcome.{HeadingFirst, ImageAfter}};
+ghost use Rattle.ffs_report.specs.PhaseOutcome.{PhaseReports};
 ghost use Rattle.ffs_counts.specs.Records.{IsGroupSector};
 ghost use Rattle.ffs_workspace.specs.{Found.WithBlockCheck, Ready.IsReady};
+ghost use Rattle.ffs_volume.specs.Messages.Kinds as messages;
 
 use crate::groups::read_group;
 use crate::once::{AlreadyReported, say_group, say_unless};

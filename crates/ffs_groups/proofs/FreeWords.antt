@@ -1,11 +1,10 @@
 -- What words of free fragments add to the counts.
-use Rattle.std.proofs.Common.{◌≡◌, inl, inr, ℕ, zero, suc, ◌+◌, ◌-◌, ◌*◌, ◌%◌, ◌^◌, ◌<◌, ◌≤◌, Bool, true, false, map}
-use Rattle.std.proofs.Common.{arith, refl, ap, ◌∙◌, nat_eq, min, bit_and, ◌/◌, List, count_by, slice_index, ◌==◌, []}
-use Rattle.std.proofs.{Common.{◌∷◌, cond, count_ones, replicate, add-zero}, lemmas.Nat.Bits.{bit_at_and, bit_at-lt}}
-use Rattle.std.proofs.lemmas.Nat.Bits.{bit_at_ones, bit_at_ones_above, same_from_bits, bit_at-zero, ones_shr}
-use Rattle.std.proofs.lemmas.{Nat.{mul-add-lt, mul-le}, Bool.{cases_lt, eqb-true, and_parts, le-ltb}}
-use Rattle.std.{proofs.lemmas.Grind.div_ceil_times, specs.{List.{range_with_len, list_all, sum_by}, Int.bit_at}}
-use Rattle.std.specs.Int.{div_ceil}
+use Rattle.std.proofs.Common.{◌≡◌, ℕ, zero, suc, ◌+◌, ◌-◌, ◌*◌, ◌%◌, ◌^◌, ◌<◌, ◌≤◌, Bool, true, false, map, arith, refl}
+use Rattle.std.proofs.Common.{ap, ◌∙◌, nat_eq, min, bit_and, ◌/◌, List, count_by, slice_index, ◌==◌, [], ◌∷◌, cond}
+use Rattle.std.proofs.{Common.{count_ones, replicate}, lemmas.Nat.Bits.{bit_at_and, bit_at-lt, bit_at_ones}}
+use Rattle.std.proofs.lemmas.Nat.{Bits.{bit_at_ones_above, same_from_bits, bit_at-zero, ones_shr}, mul-add-lt, mul-le}
+use Rattle.std.{proofs.lemmas.{Bool.{cases_lt, eqb-true, le-ltb}, Grind.div_ceil_times}, specs.List.range_with_len}
+use Rattle.std.specs.{List.{list_all, sum_by}, Int.{bit_at, div_ceil}}
 use Rattle.ffs_volume.specs.Groups.Records.{is_free_block, free_stretches, block_bits, right_frsum, group_size}
 use Rattle.ffs_volume.specs.{declared.Layout.Layout, Disk.Areas.cgbase}
 use Rattle.ffs_maps.proofs.{WordShifts.{small, bit_shr}, Counting.{sum_split, ones_by, one_on}}
@@ -18,9 +17,7 @@ map_const : (f : ℕ → Bool) (x : Bool) (a n : ℕ) → ((k : ℕ) → k < n �
     map f (range_with_len a n) ≡ replicate n x
 map_const f x a zero e = refl
 map_const f x a (suc n) e =
-    let first : f a ≡ x = rw (add-zero a) at (e 0 (omega arith)) in
-    let rest = map_const f x (a + 1) n (λ k h. rw (one_on a k) (e (k + 1) (omega arith))) in
-    cc
+    let rest = map_const f x (a + 1) n (λ k h. rw (one_on a k) (e (k + 1) (omega arith))) in grind (arith, e 0)
 
 all_free : (n : ℕ) → is_free_block (replicate n true) ≡ true
 all_free zero = refl
@@ -28,28 +25,25 @@ all_free (suc n) = all_free n
 
 each_set : (f : ℕ → Bool) (a n k : ℕ) → list_all (λ b. b) (map f (range_with_len a n)) ≡ true → k < n → f (a + k) ≡ true
 each_set f a zero k all h = absurd (omega arith)
-each_set f a (suc n) zero all h = rw (add-zero a) (and_parts (f a) _ all).0
-each_set f a (suc n) (suc k) all h = grind (arith, each_set f (a + 1) n k (and_parts (f a) _ all).1 (omega arith))
+each_set f a (suc n) k all h = let more = each_set f (a + 1) n (k - 1) in grind arith
 
 -- a block adds w whole blocks, no other fragments, and no stretches
 abbrev pub Adds : ℕ → List Bool → Type 0
 Adds w bits = (whole_in bits ≡ w) × (loose_in bits ≡ 0) × ((j : ℕ) → stretches_in j bits ≡ 0)
 
+-- what fragments of which none is free add
+used_add : (n : ℕ) → (count_by (λ b. b) (replicate n false) ≡ 0)
+    × ((j : ℕ) → count_by (λ x. x == j) (free_stretches 0 (replicate n false)) ≡ 0)
+used_add zero = (refl, λ j. refl)
+used_add (suc n) = used_add n
+
+none_add : (n : ℕ) → 0 < n → Adds 0 (replicate n false)
+none_add zero some = absurd (omega arith)
+none_add (suc n) some = let rest = used_add n in (refl, rest.0, rest.1)
+
 pub adds_none : (f : ℕ → Bool) (a n : ℕ) → 0 < n → ((k : ℕ) → k < n → f (a + k) ≡ false) →
     Adds 0 (map f (range_with_len a n))
-adds_none f a n some e = rw (map_const f false a n e) (none n some)
-  where
-    count : (n : ℕ) → count_by (λ b. b) (replicate n false) ≡ 0
-    count zero = refl
-    count (suc n) = count n
-
-    stretches : (j n : ℕ) → count_by (λ x. x == j) (free_stretches 0 (replicate n false)) ≡ 0
-    stretches j zero = refl
-    stretches j (suc n) = stretches j n
-
-    none : (n : ℕ) → 0 < n → Adds 0 (replicate n false)
-    none zero some = absurd (omega arith)
-    none (suc n) some = (refl, count n, λ j. stretches j n)
+adds_none f a n some e = rw (map_const f false a n e) (none_add n some)
 
 pub adds_all : (f : ℕ → Bool) (a n : ℕ) → ((k : ℕ) → k < n → f (a + k) ≡ true) → Adds 1 (map f (range_with_len a n))
 adds_all f a n e = let free = all_free n in rw (map_const f true a n e) (rw free refl, rw free refl, λ j. rw free refl)
@@ -57,25 +51,12 @@ adds_all f a n e = let free = all_free n in rw (map_const f true a n e) (rw free
 -- ---- a word with the lowest n bits set
 whole_word : (word n : ℕ) → bit_and word (2 ^ n - 1) ≡ 2 ^ n - 1 → is_free_block (word_bits word 0 n) ≡ true
 whole_word word n e = rw (map_const (λ k. nat_eq (bit_at word k) 1) true 0 n (λ k h.
-    let at : 0 + k ≡ k = omega arith in
-    let one : bit_at word k ≡ 1 = omega (
-      arith,
-      bit_at-lt word k,
-      bit_at_and word (2 ^ n - 1) k,
-      ap (λ x. bit_at x k) e,
-      bit_at_ones n k h,
-    ) in
-    rw (at, one) refl)) (all_free n)
+    let same = ap (λ x. bit_at x k) e in grind (arith, bit_at-lt, bit_at_and, bit_at_ones))) (all_free n)
 
 mask_of : (word n : ℕ) → is_free_block (word_bits word 0 n) ≡ true → bit_and word (2 ^ n - 1) ≡ 2 ^ n - 1
-mask_of word n whole =
-    same_from_bits (bit_and word (2 ^ n - 1)) (2 ^ n - 1) (λ k. bit_at_and word (2 ^ n - 1) k ∙ elim (cases_lt k n) [
-      | inl low ↦
-          let at : 0 + k ≡ k = omega arith in
-          let set = rw at at (each_set (λ j. nat_eq (bit_at word j) 1) 0 n k whole low) in
-          omega (arith, eqb-true (bit_at word k) 1 set, bit_at_ones n k low)
-      | inr past ↦ omega (arith, bit_at_ones_above n k past)
-    ])
+mask_of word n whole = same_from_bits (bit_and word (2 ^ n - 1)) (2 ^ n - 1)
+    (λ k. let set = each_set (λ j. nat_eq (bit_at word j) 1) 0 n k whole in
+    grind (arith, cases_lt k n, bit_at_and, eqb-true, bit_at_ones, bit_at_ones_above))
 
 -- the same, by the mask that the code computes
 pub whole_by_mask : (word n : ℕ) → n ≤ 8 → bit_and word (1 * 2 ^ n % 2 ^ 64 - 1) ≡ 1 * 2 ^ n % 2 ^ 64 - 1 →
@@ -90,16 +71,8 @@ pub none_by_mask : (bits n : ℕ) → n ≤ 8 → 0 < n → bit_and bits (1 * 2 
     Adds 0 (word_bits bits 0 n)
 none_by_mask bits n few some e =
     let none : bit_and bits (2 ^ n - 1) ≡ 0 = rw (small n (omega arith)) at e in
-    adds_none (λ k. nat_eq (bit_at bits k) 1) 0 n some (λ k h.
-    let at : 0 + k ≡ k = omega arith in
-    let clear : bit_at bits k ≡ 0 = omega (
-      arith,
-      bit_at_ones n k h,
-      bit_at_and bits (2 ^ n - 1) k,
-      ap (λ x. bit_at x k) none,
-      bit_at-zero k,
-    ) in
-    rw (at, clear) refl)
+    adds_none (λ k. nat_eq (bit_at bits k) 1) 0 n some
+    (λ k h. let same = ap (λ x. bit_at x k) none in grind (arith, bit_at_ones, bit_at_and, bit_at-zero))
 
 sum_all : (f : ℕ → ℕ) (m n : ℕ) → ((k : ℕ) → k < n → f k ≡ m) → sum_by f (range_with_len 0 n) ≡ n * m
 sum_all f m n e = sum_const f m 0 n (λ k h. let at : 0 + k ≡ k = omega arith in rw at (e k h))
@@ -206,11 +179,9 @@ ones_below : (word n : ℕ) → n ≤ 64 → count_ones (bit_and word ((2 ^ 64 -
 ones_below word n h =
     let twice : 64 - (64 - n) ≡ n = omega arith in
     rw (ones_shr 64 (64 - n) (omega arith), twice)
-    (ones_by (λ k. nat_eq (bit_at word k) 1) (bit_and word (2 ^ n - 1)) 0 n low
+    (ones_by (λ k. nat_eq (bit_at word k) 1) (bit_and word (2 ^ n - 1)) 0 n
+    (λ i l. grind (arith, bit_at_and, bit_at_ones))
     (λ i past. omega (arith, bit_at_and word (2 ^ n - 1) i, bit_at_ones_above n i past)))
-  where
-    low : (i : ℕ) → i < n → bit_at (bit_and word (2 ^ n - 1)) i ≡ cond (nat_eq (bit_at word (0 + i)) 1) 1 0
-    low i l = grind (arith, bit_at_and, bit_at_ones)
 
 -- what one fragment adds as a block
 single_adds : (b : Bool) → Adds (cond b 1 0) (b ∷ [])
@@ -221,18 +192,10 @@ pub added_single : (word frag n : ℕ) (old new : FreeCounts) → frag ≡ 1 →
     new.fragments ≡ old.fragments → ((j : ℕ) → slice_index new.frsum j ≡ slice_index old.frsum j) →
     Added (λ b. word_bits (word / 2 ^ (b * frag)) 0 frag) 0 n old new
 added_single word frag n old new one h blocks fragments frsum =
+    let none = λ (f : List Bool → ℕ) (e : (b : Bool) → f (b ∷ []) ≡ 0).
+    sum_all (λ b. f (word_bits (word / 2 ^ (b * 1)) 0 1)) 0 n (λ k l. e _) in
     rw one (record {
       blocks = grind (arith, ones_below);
-      fragments = omega (
-        arith,
-        fragments,
-        sum_const (λ b. loose_in (word_bits (word / 2 ^ (b * 1)) 0 1)) 0 0 n
-            (λ k l. (single_adds (nat_eq (bit_at (word / 2 ^ ((0 + k) * 1)) 0) 1)).1),
-      );
-      frsum = λ j. omega (
-        arith,
-        frsum j,
-        sum_const (λ b. stretches_in j (word_bits (word / 2 ^ (b * 1)) 0 1)) 0 0 n
-            (λ k l. (single_adds (nat_eq (bit_at (word / 2 ^ ((0 + k) * 1)) 0) 1)).2 j),
-      );
+      fragments = omega (arith, fragments, none loose_in (λ b. (single_adds b).1));
+      frsum = λ j. omega (arith, frsum j, none (stretches_in j) (λ b. (single_adds b).2 j));
     })

@@ -76,15 +76,7 @@ pub all_join : (n m t : ℕ) (test : ℕ → Bool) → t ≡ n + m →
 unfolding all_below
 all_join n zero t test e = grind arith
 all_join n (suc m) zero test e = absurd (omega arith)
-all_join n (suc m) (suc t) test e =
-    let same : t ≡ n + m = omega (arith, e) in
-    rw (all_join n m t test same, same)
-    (swap (test (n + m)) (all_below n test) (all_below m (λ k. test (n + k))))
-  where
-    swap : (t a b : Bool) → (t && (a && b)) ≡ (a && (t && b))
-    swap true a b = refl
-    swap false true b = refl
-    swap false false b = refl
+all_join n (suc m) (suc t) test e = let rest = all_join n m t test (omega (arith, e)) in grind arith
 
 -- a test that fails below a number fails below each greater one
 pub all_fails : (n m : ℕ) (test : ℕ → Bool) → m ≤ n → all_below m test ≡ false → all_below n test ≡ false

@@ -1,6 +1,6 @@
 -- Sums and counts over numbers in a row, and where all or none of them count.
 use Rattle.std.proofs.Common.{◌≡◌, ℕ, zero, suc, ◌+◌, ◌*◌, ◌<◌, ◌≤◌, Bool, [], map, cond, arith, refl, ap}
-use Rattle.std.proofs.Common.{count_by, ◌^◌, ◌-◌, true, false, List, not, inl, inr, nat_eq, max, add-zero}
+use Rattle.std.proofs.Common.{count_by, ◌^◌, ◌-◌, true, false, List, not, inl, inr, nat_eq, max}
 use Rattle.std.proofs.lemmas.{Bool.{cases_lt, lt-ltb, false_from_ne_true, true_from_ne_false}, List.Sums.sum_by-cons}
 use Rattle.std.{proofs.lemmas.Nat.{mul-add-lt, Bits.bit_at_ones}, specs.{List.{range_with_len, sum_by}, Int.bit_at}}
 use Rattle.ffs_volume.specs.Blocks.Claims.{is_set}
@@ -18,9 +18,8 @@ pub map_same : (f g : ℕ → Bool) (a c n : ℕ) → ((k : ℕ) → k < n → f
     map f (range_with_len a n) ≡ map g (range_with_len c n)
 map_same f g a c zero e = refl
 map_same f g a c (suc n) e =
-    let first : f a ≡ g c = rw (add-zero a, add-zero c) at (e 0 (omega arith)) in
     let rest = map_same f g (a + 1) (c + 1) n (λ k h. rw (one_on a k, one_on c k) (e (k + 1) (omega arith))) in
-    cc
+    grind (arith, e 0)
 
 -- one number more is counted
 pub count_more : (p : ℕ → Bool) (a n count r : ℕ) (b : Bool) → count ≡ count_by p (range_with_len a n) →

@@ -1,6 +1,6 @@
 -- What the kind of an inode reports of it.
-use Rattle.std.proofs.Common.{◌≡◌, ◌<◌, ℕ, Bool, true, false, ◌&&◌, ◌||◌, if◌then◌else◌, ◌==◌, List, arith, refl, ap}
-use Rattle.std.proofs.{Common.{◌∙◌, sym}, lemmas.Bool.Decides.nat_tests}
+use Rattle.std.proofs.Common.{◌≡◌, ◌<◌, ℕ, Bool, true, false, ◌&&◌, ◌||◌, ◌==◌, List, arith, refl, ap}
+use Rattle.std.proofs.{Common.{◌∙◌}, lemmas.Bool.Decides.nat_tests}
 use Rattle.ffs_volume.specs.declared.{Layout.Layout, Inode.Inode, Class.{Class, TheVariants.{Free, Partial, Unknown}}}
 use Rattle.ffs_volume.specs.{declared.Class.TheVariants.{File, Dir}, Blocks.Inodes.{inode_of, type_of, class_of}}
 use Rattle.ffs_volume.specs.Blocks.Inodes.{is_file_or_dir, is_known_type, is_directory, is_allocated, is_unknown}
@@ -38,11 +38,8 @@ pub record IsContents (c : Class) (i : Inode) (k : ℕ) : Type 0 where
   pub small : k < 16
 
 kind_reports : (c : Class) (i : Inode) → type_facts c (type_of i.mode) → IsContents c i (kind_of c i)
-kind_reports Free i h = record { dir = refl; empty = refl; allocated = refl; unknown = refl; small = omega arith }
-kind_reports Partial i h = record { dir = refl; empty = refl; allocated = refl; unknown = refl; small = omega arith }
-kind_reports Unknown i h = record { dir = refl; empty = refl; allocated = refl; unknown = refl; small = omega arith }
 kind_reports Dir i h = grind arith
-kind_reports File i h = grind (arith, known_kind)
+kind_reports c i h = grind (arith, known_kind)
 
 pub reports_at : (v : Layout) (image : List ℕ) (x : ℕ) →
     IsContents (class_at v image x) (inode_of v image x) (kind_at v image x)
@@ -78,42 +75,10 @@ suspect_is v image x = ap (λ (b : Bool). marked_at v image x || b) (empty_is v 
 pub type_is : (v : Layout) (image : List ℕ) (x : ℕ) → is_file_or_dir (class_at v image x) ≡ true →
     type_of_kind (kind_at v image x) ≡ type_of (inode_of v image x).mode
 unfolding kind_at
-type_is v image x settled = of (class_at v image x) (inode_of v image x) (facts_at v image x) settled
-  where
-    of : (c : Class) (i : Inode) → type_facts c (type_of i.mode) → is_file_or_dir c ≡ true →
-        type_of_kind (kind_of c i) ≡ type_of i.mode
-    of Free i h q = cc
-    of Partial i h q = cc
-    of Unknown i h q = cc
-    of Dir i h q = empty (i.size == 0) h
-      where
-        empty : (b : Bool) → type_of i.mode ≡ 4 → type_of_kind (if b then 5 else 4) ≡ type_of i.mode
-        empty true e = sym e
-        empty false e = sym e
-    of File i h q =
-        let f = known_kind (type_of i.mode) h.0 h.1 in
-        let other : is_dir_kind (type_of i.mode) ≡ false = ap (λ (b : Bool). b || (type_of i.mode == 5)) h.1 ∙ f.1 in
-        ap (λ (b : Bool). if b then 4 else type_of i.mode) other
+type_is v image x settled = let facts = facts_at v image x in grind (arith, known_kind)
 
 -- the class, where it isn't Partial
 pub class_is : (v : Layout) (image : List ℕ) (x : ℕ) → (class_at v image x ≡ Partial → ⊥) →
     class_of_kind (kind_at v image x) ≡ class_at v image x
 unfolding kind_at
-class_is v image x whole = of (class_at v image x) (inode_of v image x) (facts_at v image x) whole
-  where
-    of : (c : Class) (i : Inode) → type_facts c (type_of i.mode) → (c ≡ Partial → ⊥) → class_of_kind (kind_of c i) ≡ c
-    of Free i h q = refl
-    of Partial i h q = absurd (q refl)
-    of Unknown i h q = refl
-    of Dir i h q = empty (i.size == 0)
-      where
-        empty : (b : Bool) → class_of_kind (if b then 5 else 4) ≡ Dir
-        empty true = refl
-        empty false = refl
-    of File i h q =
-        let f = known_kind (type_of i.mode) h.0 h.1 in
-        let other : is_dir_kind (type_of i.mode) ≡ false = ap (λ (b : Bool). b || (type_of i.mode == 5)) h.1 ∙ f.1 in
-        ap (λ (b : Bool). if b then Free
-        else (if type_of i.mode == 15 then Unknown else (if is_dir_kind (type_of i.mode) then Dir else File))) f.0
-        ∙ ap (λ (b : Bool). if b then Unknown else (if is_dir_kind (type_of i.mode) then Dir else File)) f.2
-        ∙ ap (λ (b : Bool). if b then Dir else File) other
+class_is v image x whole = let facts = facts_at v image x in grind (arith, known_kind)

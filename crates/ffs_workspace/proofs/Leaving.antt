@@ -1,9 +1,8 @@
 -- What a workspace holds is held by one with the same findings.
 use Rattle.std.{proofs.{Common.{arith, ◌≡◌, ℕ, List, false, true}, lemmas.Bool.both_ways}, specs.Prelude.slice_index}
 use Rattle.ffs_volume.specs.{declared.Layout.Layout, Encodings.Links.start_at}
-use Rattle.ffs_workspace.specs.{declared.workspace.Workspace.Workspace}
-use Rattle.ffs_workspace.specs.Holds.{HoldsBlockCheck, HoldsCounts, HoldsFindings}
-use Rattle.ffs_workspace.specs.Holds.{HoldsReferences, HoldsSurvey, HoldsTree, IsFresh}
+use Rattle.ffs_workspace.specs.{declared.workspace.Workspace.Workspace, Holds.{HoldsBlockCheck, HoldsCounts}}
+use Rattle.ffs_workspace.specs.Holds.{HoldsFindings, HoldsReferences, HoldsSurvey, HoldsTree, IsFresh}
 use Rattle.ffs_workspace.specs.Leaves.{LeavesBlockCheck, LeavesFindings, LeavesSurvey}
 
 pub leaves_all : (w : Workspace) → LeavesSurvey w w
@@ -56,22 +55,12 @@ pub counts_same : (v : Layout) (b : List ℕ) (old new : Workspace) → new.refe
     new.surveyed ≡ old.surveyed → new.named ≡ old.named → new.reached ≡ old.reached → new.parents ≡ old.parents →
     HoldsCounts v b old → HoldsCounts v b new
 unfolding HoldsCounts
-counts_same v b old new references surveyed named reached parents h = (
-  λ e x. rw references (h.0 (rw surveyed at e) x),
-  λ e. let found = h.1 (rw surveyed at e) in (
-    record { counts = λ x l. rw references (found.0.counts x l) },
-    record {
-      named = λ x l. rw named (found.1.named x l);
-      reached = λ x. rw reached (found.1.reached x);
-      parents = λ x. rw parents (found.1.parents x);
-    },
-  ),
-)
+counts_same v b old new references surveyed named reached parents h = grind arith
 
 pub findings_claims : (v : Layout) (b : List ℕ) (old new : Workspace) → LeavesFindings old new →
     HoldsBlockCheck v b old → HoldsBlockCheck v b new
-findings_claims v b old new s h =
-    let counts = counts_same v b old new s.references s.surveyed s.named s.reached s.parents h.counts in grind arith
+unfolding HoldsCounts
+findings_claims v b old new s h = grind arith
 
 pub claims_left : (v : Layout) (b : List ℕ) (old new : Workspace) → LeavesSurvey old new → HoldsBlockCheck v b old →
     HoldsBlockCheck v b new

@@ -1,11 +1,10 @@
 -- The name of the first plain entry that names an inode, and lists that note no place.
 use Rattle.std.proofs.Common.{◌≡◌, ℕ, zero, suc, ◌+◌, ◌*◌, ◌/◌, ◌%◌, ◌^◌, ◌<◌, arith, bit_or, Bool, true, false, List}
-use Rattle.std.{proofs.Common.{[], ◌∷◌, ◌++◌, refl, sym, ap, ◌∙◌}, specs.Prelude.{◌&&◌, ◌||◌, ◌==◌, cond, replicate}}
-use Rattle.std.specs.{Prelude.slice_index, List.list_any, Int.Bits.{bit_and, or_add_and}}
-use Rattle.std.proofs.lemmas.Nat.Bits.{and_pow}
+use Rattle.std.{proofs.Common.{[], ◌∷◌, ◌++◌, refl, ap, ◌∙◌}, specs.Prelude.{cond, replicate, slice_index}}
+use Rattle.std.{specs.{List.list_any, Int.Bits.{bit_and, or_add_and}}, proofs.lemmas.Nat.Bits.and_pow}
 use Rattle.ffs_volume.specs.{declared.Layout.Layout, Directories.{Entries.Entry, Graph.is_naming_entry}}
-use Rattle.ffs_volume.specs.Directories.Roles.{RoledEntry, is_plain, role_of, roled_from}
-use Rattle.ffs_volume.specs.Encodings.Places.{AreParts, name_in}
+use Rattle.ffs_volume.specs.{Directories.Roles.{RoledEntry, is_plain, role_of, roled_from}, Encodings.Places.AreParts}
+use Rattle.ffs_volume.specs.Encodings.Places.{name_in}
 
 -- one entry: its name, or that of the first one after it
 pub name_in-cons : (x : ℕ) (e : RoledEntry) (es : List RoledEntry) →
@@ -16,28 +15,13 @@ name_in-cons x e es = grind arith
 pub name_in-after : (x : ℕ) (es fs : List RoledEntry) → list_any (is_naming_entry x) es ≡ false →
     name_in x (es ++ fs) ≡ name_in x fs
 name_in-after x [] fs h = refl
-name_in-after x (e ∷ es) fs h =
-    name_in-cons x e (es ++ fs) ∙ go (is_naming_entry x e) h (name_in-after x es fs)
-  where
-    go : (b : Bool) → (b || list_any (is_naming_entry x) es) ≡ false →
-        (list_any (is_naming_entry x) es ≡ false → name_in x (es ++ fs) ≡ name_in x fs) →
-        cond b e.entry.name (name_in x (es ++ fs)) ≡ name_in x fs
-    go true q later = absurd (cc)
-    go false q later = later q
+name_in-after x (e ∷ es) fs h = let rest = name_in-after x es fs in grind (arith, name_in-cons)
 
 -- where one of them names it, it is that of the first of them
 pub name_in-among : (x : ℕ) (es fs : List RoledEntry) → list_any (is_naming_entry x) es ≡ true →
     name_in x (es ++ fs) ≡ name_in x es
 name_in-among x [] fs h = absurd (cc)
-name_in-among x (e ∷ es) fs h =
-    name_in-cons x e (es ++ fs)
-    ∙ (go (is_naming_entry x e) h (name_in-among x es fs) ∙ sym (name_in-cons x e es))
-  where
-    go : (b : Bool) → (b || list_any (is_naming_entry x) es) ≡ true →
-        (list_any (is_naming_entry x) es ≡ true → name_in x (es ++ fs) ≡ name_in x es) →
-        cond b e.entry.name (name_in x (es ++ fs)) ≡ cond b e.entry.name (name_in x es)
-    go true q later = refl
-    go false q later = later q
+name_in-among x (e ∷ es) fs h = let rest = name_in-among x es fs in grind (arith, name_in-cons)
 
 -- whether an entry is plain depends neither on its index nor on whether its chunk is at the start
 -- of the file
@@ -51,22 +35,16 @@ pub name_in-roled : (x : ℕ) (first later : Bool) (i j : ℕ) (es : List Entry)
 unfolding roled_from
 name_in-roled x first later i j [] = refl
 name_in-roled x first later i j (e ∷ es) =
-    name_in-cons x _ (roled_from first (suc i) es)
-    ∙ (ap (λ b. cond (b && (e.number == x)) e.name (name_in x (roled_from first (suc i) es)))
-    (plain_alike first later i j e)
-    ∙ (ap (λ n. cond (is_plain (role_of later j e) && (e.number == x)) e.name n)
-    (name_in-roled x first later (suc i) (suc j) es)
-    ∙ sym (name_in-cons x _ (roled_from later (suc j) es))))
+    let rest = name_in-roled x first later (suc i) (suc j) es in
+    let plain = plain_alike first later i j e in
+    grind (arith, name_in-cons)
 
 pub any_naming-roled : (x : ℕ) (first later : Bool) (i j : ℕ) (es : List Entry) →
     list_any (is_naming_entry x) (roled_from first i es) ≡ list_any (is_naming_entry x) (roled_from later j es)
 unfolding roled_from
 any_naming-roled x first later i j [] = refl
 any_naming-roled x first later i j (e ∷ es) =
-    ap (λ b. (b && (e.number == x)) || list_any (is_naming_entry x) (roled_from first (suc i) es))
-    (plain_alike first later i j e)
-    ∙ ap (λ a. (is_plain (role_of later j e) && (e.number == x)) || a)
-    (any_naming-roled x first later (suc i) (suc j) es)
+    rw (plain_alike first later i j e, any_naming-roled x first later (suc i) (suc j) es) refl
 
 -- the top bit of a word of 32 bits is set
 pub or_due : (word : ℕ) → word < 2 ^ 32 → bit_or word 2147483648 ≡ word % 2147483648 + 2147483648

@@ -2,10 +2,9 @@
 use Rattle.std.specs.Prelude.{◌≡◌, ◌==◌, ◌<◌, ◌+◌, ℕ, Bool, false, not, true, List, replicate, slice_index}
 use Rattle.std.specs.Option.{unwrap_or}
 use Rattle.ffs_volume.specs.Blocks.{BlockCheck.set_count, Claims.{Claims, all_claims}, Inodes.inodes_of}
-use Rattle.ffs_volume.specs.declared.Layout.{Layout}
-use Rattle.ffs_volume.specs.Directories.{Graph.{is_named, reached, parent}, Roles.references, Naming.graph_of}
-use Rattle.ffs_volume.specs.{Directories.Volumes.{marked_at, marked_by_phase1_at, volume_of}, Encodings.Kinds.kind_at}
-use Rattle.ffs_volume.specs.Encodings.{Links.start_at, Places.AreParts, Notes.note_at}
+use Rattle.ffs_volume.specs.{declared.Layout.Layout, Directories.{Graph.{is_named, reached, parent}, Roles.references}}
+use Rattle.ffs_volume.specs.Directories.{Naming.graph_of, Volumes.{marked_at, marked_by_phase1_at, volume_of}}
+use Rattle.ffs_volume.specs.Encodings.{Kinds.kind_at, Links.start_at, Places.AreParts, Notes.note_at}
 use Rattle.ffs_workspace.specs.declared.workspace.Workspace.{Workspace}
 use Rattle.ffs_maps.specs.Bits.{bits_of}
 pub use Rattle.ffs_volume.specs.Encodings.Lists.{bool_at}

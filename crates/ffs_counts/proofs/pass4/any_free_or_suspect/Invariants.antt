@@ -1,6 +1,5 @@
 use Rattle.std.proofs.Common.{◌≡◌, ◌<◌, ◌≤◌, ◌+◌, ℕ, false}
-use Rattle.ffs_volume.specs.Encodings.Kinds.{is_empty_dir_kind}
-use Rattle.ffs_volume.specs.Encodings.Lists.{number_at}
+use Rattle.ffs_volume.specs.Encodings.{Kinds.is_empty_dir_kind, Lists.number_at}
 use Rattle.ffs_counts.proofs.pass4.any_free_or_suspect.Given as goal
 
 abbrev pub invariant-loop-number : goal.invariant-loop-number

@@ -1,12 +1,11 @@
 use Rattle.std.proofs.{Common.{◌≡◌, ◌∙◌, ◌+◌, arith, Err, Ok, refl}, lemmas.Result.err_from_is_err_and}
 use Rattle.ffs_volume.specs.Directories.{ReferenceCheck.reference_lines_at, Volumes.volume_of}
 use Rattle.ffs_volume.{proofs.Numbered.{as_many, count_next, from_next, from_end}, specs.Blocks.Inodes.inodes_of}
-use Rattle.ffs_report.proofs.Paying.{paid_answer, paid_fault, paid_says, paid_stops, paid_then}
+use Rattle.ffs_report.proofs.{Paying.{paid_answer, paid_fault, paid_says, paid_stops, paid_then}, Reporting.of_fault}
+use Rattle.ffs_report.proofs.Reporting.{of_part, of_same, reports_knowing, said_knows, says_heading, heading_alone}
+use Rattle.ffs_report.proofs.Reporting.{heading_part, stops_heading}
 use Rattle.ffs_image.specs.Known.{ForBytes}
-use Rattle.ffs_report.proofs.Reporting.{of_fault, of_part, of_same, reports_knowing, said_knows, says_heading}
-use Rattle.ffs_report.proofs.Reporting.{heading_alone, heading_part, stops_heading}
-use Rattle.ffs_workspace.specs.{Found.WithFindings}
-use Rattle.ffs_workspace.proofs.Leaving.{findings_held}
+use Rattle.ffs_workspace.{specs.Found.WithFindings, proofs.Leaving.findings_held}
 use Rattle.ffs_counts.proofs.Holding.{held_on, lines_after, lines_begin, passed_lines}
 use Rattle.ffs_counts.proofs.pass4.phase4.Goals.{After-skipped_from-skipped, At-loop-number}
 use Rattle.ffs_counts.proofs.pass4.phase4.Given as given

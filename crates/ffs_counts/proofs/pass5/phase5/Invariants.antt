@@ -1,6 +1,5 @@
 use Rattle.std.proofs.Common.{◌≡◌, ◌+◌, ◌%◌, ◌≤◌, Ok}
-use Rattle.ffs_volume.specs.{Messages.Kinds.phase5, Report.Whole.phase5_messages}
-use Rattle.ffs_volume.specs.Report.Reads.{records_at_once}
+use Rattle.ffs_volume.specs.{Messages.Kinds.phase5, Report.{Whole.phase5_messages, Reads.records_at_once}}
 use Rattle.ffs_layout.specs.Super.{superblock_in}
 use Rattle.ffs_report.specs.{PhaseOutcome.{HeadingFirst, SaidOf}, Progress.progress}
 use Rattle.ffs_groups.specs.Inodes.{class_in}

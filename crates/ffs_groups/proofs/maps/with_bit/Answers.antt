@@ -1,6 +1,4 @@
-use Rattle.std.proofs.Common.{arith}
-use Rattle.std.proofs.Common.{sym}
-use Rattle.std.{proofs.lemmas.Nat.Bits.bit_at_set_other, proofs.lemmas.Nat.Bits.bit_at_set_same}
+use Rattle.std.proofs.{Common.{arith, sym}, lemmas.Nat.Bits.{bit_at_set_other, bit_at_set_same}}
 use Rattle.ffs_groups.proofs.maps.with_bit.Goals as goal
 
 pub returns-then-bit : goal.returns-then-bit
