@@ -20,11 +20,7 @@ use Rattle.ffs_pathnames.proofs.{Begun.quiet_parts, StampLaws.{noted_kept, stamp
 use Rattle.ffs_pathnames.proofs.{BetweenLaws.{silent_next, silent_quiet}, EmptyLaws.{looked_is, looked_dir, names_none}}
 use Rattle.ffs_survey.specs.Survey.{suspect_at}
 
--- a fact of each value that is answered
-pub if_ok : {T E : Type 0} (r : Result T E) (P Q : T → Type 0) → ((x : T) → P x → Q x) → IfOk r P → IfOk r Q
-if_ok (Ok x) P Q f h = f x h
-if_ok (Err e) P Q f h = tt
-
+-- what follows from two facts of each value that is answered
 pub if_both : {T E : Type 0} (r : Result T E) (P Q R : T → Type 0) → ((x : T) → P x → Q x → R x) → IfOk r P → IfOk r Q
     → IfOk r R
 if_both (Ok x) P Q R f p q = f x p q

@@ -3,7 +3,7 @@ use Rattle.std.proofs.Common.{◌≡◌, ◌≤◌, ap, append-nil, ℕ, IsTrue,
 use Rattle.ffs_image.specs.{Device.Device, declared.image.ImageFault.ImageFault}
 use Rattle.ffs_volume.specs.{declared.Layout.Layout, Directories.{Roles.{RoledEntry, Volume}, Volumes.volume_of}}
 use Rattle.ffs_volume.specs.{Messages.Kinds.{TreeMessage, of_tree}, Report.Reads.line_reads}
-use Rattle.ffs_report.{specs.Progress.{Progress, Said, Stopped}, proofs.Paying.paid_reads}
+use Rattle.ffs_report.{specs.{Paid.Paid, PhaseOutcome.PhaseReports, Progress.{Progress, Said, Stopped}}, proofs.Paying.paid_reads}
 use Rattle.ffs_image.specs.Known.{ForBytes}
 use Rattle.ffs_report.proofs.{Paying.{paid_says, paid_stops}, Reporting.{reads_first, says_all, stops_all}}
 use Rattle.ffs_report.specs.declared.fault.RunFault.{RunFault, TheVariants.{Read, Out}}
@@ -26,42 +26,37 @@ module _ {S : Type 0} {v : Layout} {d d' : Device} {w w' : Workspace} {x : ℕ} 
     (stays : IsTrue t.path_settled → IsTrue t'.path_settled)
     (once : (bytes : List ℕ) → KnowsPlaces v d.contents w bytes → ReadsPathOnce 1 t t' reads reads')
     (some : ForBytes (DirectoryContext v d.contents w x) (λ bytes. 1 ≤ length (lines (volume_of v bytes)))) where
-  -- a read failed
-  pub entry_unread : {T : Type 0} {a : Progress} {fault : _} →
-      SaysEntryLines {T = T} v x lines (entries_at d reads w a t) (entries_at d' reads' w' a t') (Err (Read fault))
-  entry_unread = record {
-    text = reads_first;
+  -- what is said, and read for it, is by the texts that were gathered
+  entry_by : {T : Type 0} {a b : Progress} {said : Result T RunFault} →
+      PhaseReports (KnowsPath v d.contents w x t) (λ bytes. map of_tree (lines (volume_of v bytes))) a b said →
+      Paid line_reads a b reads reads' said →
+      SaysEntryLines v x lines (entries_at d reads w a t) (entries_at d' reads' w' b t') said
+  entry_by text paid = record {
+    text = text;
     path = keeps;
     settled = stays;
     once = λ bytes k noted. by_once t t' reads reads' _ (once bytes (knows_places _ _ _ _ bytes k noted)) (some bytes k);
     counted = λ bytes k noted. by_line _ (left.path.counted bytes (knows_places _ _ _ _ bytes k noted)) (some bytes k);
-    paid = paid_reads left.most;
+    paid = paid;
   }
+
+  -- a read failed
+  pub entry_unread : {T : Type 0} {a : Progress} {fault : _} →
+      SaysEntryLines {T = T} v x lines (entries_at d reads w a t) (entries_at d' reads' w' a t') (Err (Read fault))
+  entry_unread = entry_by reads_first (paid_reads left.most)
 
   -- the lines were said, or the output failed among them
   pub entry_said : {T : Type 0} {a b : Progress} {y : T} (ms : List TreeMessage) → 1 ≤ length ms →
       ForBytes (KnowsPath v d.contents w x t) (λ bytes. lines (volume_of v bytes) ≡ ms) → Said a b (map of_tree ms) →
       SaysEntryLines v x lines (entries_at d reads w a t) (entries_at d' reads' w' b t') (Ok y)
-  entry_said ms many right said = record {
-    text = says_all (λ bytes k. ap (map of_tree) (right bytes k)) said;
-    path = keeps;
-    settled = stays;
-    once = λ bytes k noted. by_once t t' reads reads' _ (once bytes (knows_places _ _ _ _ bytes k noted)) (some bytes k);
-    counted = λ bytes k noted. by_line _ (left.path.counted bytes (knows_places _ _ _ _ bytes k noted)) (some bytes k);
-    paid = paid_says _ said (some_said _ many) left.most;
-  }
+  entry_said ms many right said = entry_by (says_all (λ bytes k. ap (map of_tree) (right bytes k)) said)
+      (paid_says _ said (some_said _ many) left.most)
 
   pub entry_stopped : {T : Type 0} {a b : Progress} {fault : _} (ms : List TreeMessage) → 1 ≤ length ms →
       ForBytes (KnowsPath v d.contents w x t) (λ bytes. lines (volume_of v bytes) ≡ ms) → Stopped a b (map of_tree ms) →
       SaysEntryLines {T = T} v x lines (entries_at d reads w a t) (entries_at d' reads' w' b t') (Err (Out fault))
-  entry_stopped ms many right stopped = record {
-    text = stops_all (λ bytes k. ap (map of_tree) (right bytes k)) stopped;
-    path = keeps;
-    settled = stays;
-    once = λ bytes k noted. by_once t t' reads reads' _ (once bytes (knows_places _ _ _ _ bytes k noted)) (some bytes k);
-    counted = λ bytes k noted. by_line _ (left.path.counted bytes (knows_places _ _ _ _ bytes k noted)) (some bytes k);
-    paid = paid_stops _ stopped (some_said _ many) left.most;
-  }
+  entry_stopped ms many right stopped = entry_by (stops_all (λ bytes k. ap (map of_tree) (right bytes k)) stopped)
+      (paid_stops _ stopped (some_said _ many) left.most)
 
 -- the lines of an entry alone are its lines
 pub one_entry : {T : Type 0} {v : Layout} {x : ℕ} {old new : LinesMoment EntryTexts} {r : Result T RunFault}

@@ -83,21 +83,6 @@ gathered {v = v} {d = d} {d' = d'} {w = w} {w' = w'} {name_lent = lent} {name = 
     }
 
 -- a path spared as many reads of the image below
-spares_below : {v : Layout} {d d' l l' : Device} {w w' : Workspace} {s s' s'' : KeptParent}
-    {x reads reads' before asked : ℕ} → l.contents ≡ d.contents → before ≡ 0 → reads' ≤ reads + asked →
-    SparesReads v x (kept_at l before w s) (kept_at l' asked w' s'') →
-    SparesReads v x (kept_at d reads w s) (kept_at d' reads' w' s')
-spares_below {v = v} {d = d} {l = l} {w = w} same begins few spares =
-    let known : (b : List ℕ) → KnowsPlaces v d.contents w b → KnowsPlaces v l.contents w b = λ b k.
-    subst (λ contents. KnowsPlaces v contents w b) (sym same) k in
-    record {
-      names = λ b k. let most = spares.names b (known b k) in omega (arith, begins, few, most);
-      kept = λ b p k of has. let most = spares.kept b p (known b k) of has in omega (arith, begins, few, most);
-      again = λ b p k of has held.
-          let most = spares.again b p (known b k) of has held in
-          omega (arith, begins, few, most);
-    }
-
 pub spared : {T : Type 0} {v : Layout} {d d' l l' : Device} {w w' : Workspace} {s s' s'' : KeptParent}
     {name_lent name : GName} {reads reads' limit left before asked n x : ℕ} {spent : Bool} {r : Result T ImageFault} →
     l ≡ limited_device d name_lent reads limit → before ≡ 0 →
@@ -105,8 +90,17 @@ pub spared : {T : Type 0} {v : Layout} {d d' l l' : Device} {w w' : Workspace} {
     GivesBackLent (lent_at d' name reads' left) asked spent l' →
     SparesReads v x (kept_at l before w s) (kept_at l' asked w' s'') →
     SparesReads v x (kept_at d reads w s) (kept_at d' reads' w' s')
-spared {v = v} {d = d} {d' = d'} {w = w} {name_lent = lent} {name = name} {reads = reads} {reads' = reads'}
+spared {v = v} {d = d} {d' = d'} {l = l} {w = w} {name_lent = lent} {name = name} {reads = reads} {reads' = reads'}
     {limit = limit} {asked = asked} {spent = spent} {r = r} over begins p back spares =
     let path = rw over at p in
     let below : ServedBy d d' lent name reads reads' limit asked spent r = served path.reads.read back in
-    spares_below (ap (λ (q : Device). q.contents) over) begins below.as_asked spares
+    let few = below.as_asked in
+    let known : (b : List ℕ) → KnowsPlaces v d.contents w b → KnowsPlaces v l.contents w b = λ b k.
+    subst (λ contents. KnowsPlaces v contents w b) (sym (ap (λ (q : Device). q.contents) over)) k in
+    record {
+      names = λ b k. let most = spares.names b (known b k) in omega (arith, begins, few, most);
+      kept = λ b p k of has. let most = spares.kept b p (known b k) of has in omega (arith, begins, few, most);
+      again = λ b p k of has held.
+          let most = spares.again b p (known b k) of has held in
+          omega (arith, begins, few, most);
+    }

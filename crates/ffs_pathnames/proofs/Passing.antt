@@ -55,11 +55,10 @@ pub chunk_passed : (v : Volume) (s : ℕ) {all : PassedNames} (m : PassedNames) 
 chunk_passed v s m is after q = grind (arith, after_more)
 
 -- an entry is passed, where what is remembered is in the lists of a workspace
-pub passes : (v : Volume) (d : ℕ) (e : RoledEntry) {p0 p1 p2 p3 : List Bool} {s0 s1 s2 s3 : List ℕ} → p1 ≡ p0 →
-    s1 ≡ s0 →
-    after_roled v d (record { flags = p1; stamps = s1 }) e ≡ record { flags = p2; stamps = s2 } → p3 ≡ p2 → s3 ≡ s2 →
-    after_roled v d (record { flags = p0; stamps = s0 }) e ≡ record { flags = p3; stamps = s3 }
-passes v d e p s law q t = rw (← p, ← s, q, t) law
+pub passes : (v : Volume) (d : ℕ) (e : RoledEntry) {p p' : List Bool} {s s' : List ℕ} {m : PassedNames} → p' ≡ p →
+    s' ≡ s → after_roled v d (record { flags = p'; stamps = s' }) e ≡ m →
+    after_roled v d (record { flags = p; stamps = s }) e ≡ m
+passes v d e flags stamps law = rw (← flags, ← stamps) law
 
 -- what is known of a workspace's lists stays where they stay
 pub knows_on : (v : Layout) (contents contents' : Option (List ℕ)) (old new : Workspace) (d : ℕ) (b : List ℕ) →

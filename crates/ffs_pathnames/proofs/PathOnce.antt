@@ -1,10 +1,10 @@
 -- The path of a directory is made once for all lines on its entries.
-use Rattle.std.proofs.Common.{◌≡◌, ◌+◌, ◌≤◌, ℕ, Bool, true, false, if◌then◌else◌, List, Result, Ok, ap, arith, refl}
+use Rattle.std.proofs.Common.{◌≡◌, ◌+◌, ◌≤◌, ℕ, Bool, true, false, if◌then◌else◌, IsTrue, List, OnOk, Result, Ok, ap, arith, refl}
 use Rattle.ffs_image.specs.declared.image.{Image.Ghosts, ImageFault.ImageFault}
 use Rattle.ffs_volume.specs.{declared.{Layout.Layout, verdict.Verdict.Verdict}, Report.Reads.path_reads}
 use Rattle.ffs_workspace.specs.declared.workspace.Workspace.{Workspace}
 use Rattle.ffs_paths.specs.Reads.{KnowsPlaces}
-use Rattle.ffs_pathnames.specs.Gathers.{asks_attr, asks_path, BeginsPath, if_wanted, verdict_reads}
+use Rattle.ffs_pathnames.specs.Gathers.{asks_attr, asks_path, BeginsOnce, BeginsPath, if_wanted, verdict_reads}
 use Rattle.ffs_pathnames.specs.LineReads.{again_reads, path_owed, ReadsPathOnce}
 use Rattle.ffs_pathnames.specs.declared.entry_texts.EntryTexts.{EntryTexts}
 
@@ -35,39 +35,32 @@ by_once t t' reads reads' n once some = omega (arith, once, some)
 
 -- the path is made, where it wasn't settled
 module _ {S : Type 0} {I : Ghosts S} {v : Layout} {old new : S} {w w' : Workspace} {x : ℕ} {t t' : EntryTexts} where
-  begin_by : {T : Type 0} {y : T} (settled : Bool) → t.path_settled ≡ settled →
-      BeginsPath I v old new w w' x t t' (Ok y) → (b : List ℕ) → KnowsPlaces v (I.device old).contents w b →
-      I.reads new + path_owed t' ≤ I.reads old + path_owed t
-  begin_by true e p b k =
-      let same = p.held e in
-      let reads = ap I.reads same.0 in
-      let owed = ap path_owed same.2 in
-      omega (arith, reads, owed)
-  begin_by false e p b k =
+  begin_few : {T : Type 0} {r : Result T ImageFault} (settled : Bool) → t.path_settled ≡ settled →
+      BeginsPath I v old new w w' x t t' r → (b : List ℕ) → KnowsPlaces v (I.device old).contents w b →
+      I.reads new ≤ I.reads old + path_owed t
+  begin_few true e p b k = let reads = ap I.reads (p.held e).0 in omega (arith, reads)
+  begin_few false e p b k =
       let few = (p.makes.makes.leaves.counted b k).count in
       let owed = owed_by t false e in
-      let none = owed_by t' true p.makes.makes.settled in
-      omega (arith, few, owed, none)
+      omega (arith, few, owed)
 
   pub begin_once : {T : Type 0} {y : T} → BeginsPath I v old new w w' x t t' (Ok y) → (b : List ℕ) →
       KnowsPlaces v (I.device old).contents w b → I.reads new + path_owed t' ≤ I.reads old + path_owed t
-  begin_once p b k = begin_by t.path_settled refl p b k
+  begin_once p b k =
+      let few = begin_few t.path_settled refl p b k in
+      let none = owed_by t' true p.makes.makes.settled in
+      omega (arith, few, none)
 
-  most_by : {T : Type 0} {r : Result T ImageFault} (settled : Bool) → t.path_settled ≡ settled →
-      BeginsPath I v old new w w' x t t' r → (b : List ℕ) → KnowsPlaces v (I.device old).contents w b →
-      I.reads new + path_owed t' ≤ I.reads old + (path_owed t + path_reads)
-  most_by true e p b k =
-      let same = p.held e in
-      let reads = ap I.reads same.0 in
-      let owed = ap path_owed same.2 in
-      omega (arith, reads, owed)
-  most_by false e p b k =
-      let few = (p.makes.makes.leaves.counted b k).count in
-      let owed = owed_by t false e in
-      let most = owed_most t' t'.path_settled refl in
-      omega (arith, few, owed, most)
-
-  -- and where that fails
-  pub begin_most : {T : Type 0} {r : Result T ImageFault} → BeginsPath I v old new w w' x t t' r → (b : List ℕ) →
-      KnowsPlaces v (I.device old).contents w b → I.reads new + path_owed t' ≤ I.reads old + (path_owed t + path_reads)
-  begin_most p b k = most_by t.path_settled refl p b k
+  -- and where no more is read then
+  pub begin_alone : {T U : Type 0} {n : ℕ} {r : Result T ImageFault} {next : Result U ImageFault} →
+      BeginsPath I v old new w w' x t t' r → OnOk next (IsTrue t'.path_settled) →
+      BeginsOnce I v old new w w' n t t' next
+  begin_alone p settled = record {
+    settled = settled;
+    stays = p.makes.makes.stays;
+    again = λ before b k. let reads = ap I.reads (p.held before).0 in omega (arith, reads);
+    once = λ b k.
+        let few = begin_few t.path_settled refl p b k in
+        let most = owed_most t' t'.path_settled refl in
+        omega (arith, few, most);
+  }

@@ -1,5 +1,5 @@
 -- The windows hold what the image gives where a chunk is read.
-use Rattle.std.{proofs.Common.{◌≡◌, ◌≤◌, ◌+◌, ℕ, Bool, arith, ap, rules, Result, Ok, Err, vec_len}, specs.declared.alloc.Global.Global}
+use Rattle.std.{proofs.Common.{◌≡◌, ◌≤◌, ◌+◌, ℕ, Bool, arith, ap, rules, subst, Result, Ok, Err, vec_len}, specs.declared.alloc.Global.Global}
 use Rattle.std.specs.declared.vec.Vec.{Vec}
 use Rattle.ffs_workspace.specs.Moments.{WorkMoment}
 use Rattle.ffs_image.specs.{Device.Device, declared.image.ImageFault.ImageFault}
@@ -9,7 +9,9 @@ use Rattle.ffs_workspace.specs.{declared.workspace.{Windows.Windows, Workspace.W
 use Rattle.ffs_paths.specs.{declared.kept_parent.KeptParent.KeptParent, Reads.{OnlyReadsFew}}
 use Rattle.ffs_paths.proofs.{Climbed.{few_more, few_then}, Keeping.{kept_on, reads_then, kept_parent_held}}
 use Rattle.ffs_names.specs.Windows.{CanReadChunks, CanWalkDir}
-use Rattle.ffs_pathnames.specs.Ready.{LimitedPathLeaves, ReadyWith}
+use Rattle.ffs_pathnames.{specs.{Ready.{DirectoryLeaves, LimitedPathLeaves, ReadyWith}, Stamps.KeepParts}, proofs.StampLaws.keep_more}
+use Rattle.ffs_report.specs.{PhaseOutcome.ImageAfter, declared.fault.RunFault.RunFault}
+use Rattle.ffs_workspace.{specs.Leaves.LeavesSurvey, proofs.Leaving.leaves_more}
 
 -- a workspace with other blocks and another chunk in its windows
 abbrev pub with_chunk : Workspace → Blocks → Window → Workspace
@@ -64,6 +66,18 @@ can_read_more v d d' blocks blocks' chunk can e walk = grind arith
 pub can_read_in : (v : Layout) (d : Device) (w : Workspace) → CanRead v d w
     → CanReadChunks v d w.windows.blocks w.windows.current
 can_read_in v d w r = grind arith
+
+-- what a call leaves after others that left the image as it was
+pub leaves_after : {T : Type 0} {v : Layout} {old mid new : WorkMoment} {s : KeptParent} {r : Result T RunFault} →
+    mid.image ≡ old.image → LeavesSurvey old.workspace mid.workspace →
+    KeepParts old.workspace.queue.items mid.workspace.queue.items → DirectoryLeaves v mid new s r →
+    DirectoryLeaves v old new s r
+leaves_after {new = new} {r = r} same survey places left = record {
+  image = subst (λ d. ImageAfter d new.image r) same left.image;
+  survey = leaves_more survey left.survey;
+  places = keep_more _ _ _ places left.places;
+  ready = left.ready;
+}
 
 -- what a call leaves that gathered a path, and another that only read
 pub leaves_read : {S T : Type 0} {n k m : ℕ} {v : Layout} {old mid new : WorkMoment} {s : KeptParent} {x : S}

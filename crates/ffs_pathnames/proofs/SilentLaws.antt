@@ -289,14 +289,9 @@ calm_belongs vol kinds marked reached parents sound d x two sh c dir named =
     let root_is = sh.parent_is 2 in
     grind (arith, nat_tests)
 
--- the entries by the chunks
-by_chunks : (vol : Volume) (d : ℕ) (s : CurrentDir) (r : ℕ → Bool) → are_calm s r 0 (roled_entries vol d) ≡ true →
-    are_calm s r 0 (flat_map roled_chunk (vol.chunks d)) ≡ true
-unfolding roled_entries
-by_chunks vol d s r h = h
-
 pub calm_silent : (v : Layout) (b : List ℕ) (w : Workspace) → IsAcceptedLayout v → IsFor v w → HoldsBlockCheck v b w →
     HoldsSurvey v b w → FlagsOnlyCalm v b w → (d : ℕ) → bool_at w.flags.items d ≡ true → IsSilentDirectory (volume_of v b) d
+unfolding roled_entries
 calm_silent v b w g m h r f d set =
     let sh = shown v b w m h r in
     let c = f.calm d set in
@@ -312,8 +307,7 @@ calm_silent v b w g m h r f d set =
     } in
     let shape = and_parts (is_right_size ((volume_of v b).inode d).size) _ all.1 in
     let firsts = first_two s c.before ((volume_of v b).chunks d) (solid_dir v b d g dir)
-    (and_parts (are_sound ((volume_of v b).chunks d)) _ shape.1).0
-    (by_chunks (volume_of v b) d s c.before c.entries_right) in
+    (and_parts (are_sound ((volume_of v b).chunks d)) _ shape.1).0 c.entries_right in
     record {
       starts = starts_silent (volume_of v b) d (number_at w.parents.items d) firsts (sh.parent_is d) all.1;
       entries = λ flags stamps none. calm_quiet (volume_of v b) s w.parents.items flags (roled_entries (volume_of v b) d)

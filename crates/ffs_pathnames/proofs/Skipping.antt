@@ -4,10 +4,10 @@ use Rattle.std.proofs.Common.{slice_index}
 use Rattle.ffs_volume.specs.{declared.Layout.Layout, Laws.Geometry.IsAcceptedLayout, Directories.Volumes.volume_with}
 use Rattle.ffs_volume.specs.{Directories.{Volumes.volume_of, PathnameCheck.directory_lines}, Messages.Kinds.of_tree}
 use Rattle.ffs_volume.{specs.{Messages.Kinds.lines_from, Encodings.Places.is_due}, proofs.Numbered.from_next}
-use Rattle.ffs_workspace.specs.{declared.workspace.Workspace.Workspace, Lengths.IsFor, Holds.{HoldsCounts, HoldsSurvey}}
-use Rattle.ffs_workspace.proofs.Leaving.{counts_same}
+use Rattle.ffs_workspace.specs.{declared.workspace.Workspace.Workspace, Lengths.IsFor, Holds.HoldsSurvey}
+use Rattle.ffs_workspace.proofs.Leaving.{findings_claims}
 use Rattle.ffs_pathnames.{specs.Before.{IsBefore, needs_check}, proofs.Carrying.{before_skipped, lines_skipped}}
-use Rattle.ffs_pathnames.proofs.StampLaws.{none_stamped, stamps_length}
+use Rattle.ffs_pathnames.proofs.{Findings.findings_noted, StampLaws.{none_stamped, stamps_length}}
 
 -- none of the inodes from 2 to before n is looked at
 abbrev pub IsUnseen : Workspace → ℕ → Type 0
@@ -34,19 +34,9 @@ pub noted_before : (v : Layout) (contents contents' : Option (List ℕ)) (old ne
     HoldsSurvey v b new → ((x : ℕ) → is_due (slice_index new.queue.items x) ≡ false) →
     IsBefore v contents old n b → IsBefore v contents' new n b
 unfolding volume_of volume_with
-noted_before v contents contents' old new n b two same lists made survey none k =
-    let counts : HoldsCounts v b new = counts_same v b old new (ap (λ (w : Workspace). w.references) lists)
-    (ap (λ (w : Workspace). w.surveyed) lists) (ap (λ (w : Workspace). w.named) lists)
-    (ap (λ (w : Workspace). w.reached) lists) (ap (λ (w : Workspace). w.parents) lists) k.claims.counts in
-    record {
-      gives_bytes = same ∙ k.gives_bytes;
-      claims = record {
-        used = rw (ap (λ (w : Workspace). w.used) lists) k.claims.used;
-        kinds = λ x. rw (ap (λ (w : Workspace). w.kinds) lists) (k.claims.kinds x);
-        marked = λ x. rw (ap (λ (w : Workspace). w.marked) lists) (k.claims.marked x);
-        notes = λ x. rw (ap (λ (w : Workspace). w.notes) lists) (k.claims.notes x);
-        counts = counts;
-      };
-      survey = survey;
-      passed = grind (arith, ap, none_stamped, stamps_length);
-    }
+noted_before v contents contents' old new n b two same lists made survey none k = record {
+  gives_bytes = same ∙ k.gives_bytes;
+  claims = findings_claims v b old new (findings_noted old new lists) k.claims;
+  survey = survey;
+  passed = grind (arith, ap, none_stamped, stamps_length);
+}

@@ -45,8 +45,8 @@ unstamped ps ws ws' x word set due = rw (set, stamps_set ps ws x word, due) refl
 pub none_stamped : (ps ws : List ℕ) (x : ℕ) → is_due (slice_index ws x) ≡ false → slice_index (stamps_of ps ws) x ≡ 0
 none_stamped ps ws x h = rw (stamp_at ps ws x, h) refl
 
-pub keep_more : {a b c : List ℕ} → KeepParts a b → KeepParts b c → KeepParts a c
-keep_more {a} {b} {c} p q x = q x ∙ p x
+pub keep_more : (a b c : List ℕ) → KeepParts a b → KeepParts b c → KeepParts a c
+keep_more a b c p q x = q x ∙ p x
 
 pub words_more : {a b c : Vec ℕ Global} → KeepsWords a b → KeepsWords b c → KeepsWords a c
 words_more p q = record { places = λ x. q.places x ∙ p.places x; long = q.long ∙ p.long }

@@ -12,9 +12,10 @@ use Rattle.ffs_paths.specs.declared.kept_parent.KeptParent.{KeptParent}
 use Rattle.ffs_workspace.specs.{Holds.{HoldsBlockCheck, HoldsSurvey}, Leaves.LeavesFindings, Ready.CanRead}
 use Rattle.ffs_pathnames.specs.{ChecksNeeded.ChecksLookedAt, Before.IsBefore, Gathers.passed_of, LineReads.again_reads}
 use Rattle.ffs_pathnames.specs.{LineReads.ReadsByLines, HeaderValues.{KnowsHeader, facts_lines}}
-use Rattle.ffs_pathnames.specs.{Moments.LinesMoment, PassedNames.{are_quiet, directory_reported}, Ready.LinesLeave}
+use Rattle.ffs_pathnames.specs.{Moments.LinesMoment, PassedNames.are_quiet, Ready.LinesLeave}
 use Rattle.ffs_pathnames.specs.{Ready.DirectoryLeaves, declared.checking.Checking.Checking}
-use Rattle.ffs_pathnames.specs.{Tasks.DirectoryTask, declared.header.HeaderFacts.HeaderFacts}
+use Rattle.ffs_pathnames.specs.{Tasks.{DirectoryTask, entries_task, sized_task}, declared.header.HeaderFacts.HeaderFacts}
+use Rattle.ffs_pathnames.specs.declared.look.Directory.{Directory}
 
 -- the lines on what was found of a directory before its entries are said, and the image is read for no more
 -- than these; any image for no more than the messages that were begun. All of the workspace but its windows
@@ -31,15 +32,16 @@ pub record ReportsHeader {T : Type 0} (v : Layout) (h : HeaderFacts) (old new : 
 -- the lines of a task are said, by what is known of the bytes, and what it asks of the answer holds. The
 -- directory's own blocks are read `own_reads` times at most, which are taken of the reads that are left, and the
 -- rest is read for the lines; of any image for no more than the messages that were begun
-pub record ReportsDirectory {T : Type 0} (v : Layout) (task : DirectoryTask T) (old new : LinesMoment Checking)
-    (result : Result T RunFault) : Type 0 where
-  pub text : PhaseReports task.knows (λ b. map of_tree (task.lines b)) old.report new.report result
-  pub reads : ForBytes task.knows (λ b. AreNoted v b old.at.workspace.queue.items
-      → new.at.reads ≤ old.at.reads + (task.own_reads b + line_reads * length (task.lines b)))
-  pub spends : ForBytes task.knows (λ b. old.kept.reads_left ≤ new.kept.reads_left + task.own_reads b)
+pub record ReportsDirectory {T : Type 0} (v : Layout) (task : (old new : LinesMoment Checking) → DirectoryTask T)
+    (old new : LinesMoment Checking) (result : Result T RunFault) : Type 0 where
+  pub text : PhaseReports (task old new).knows (λ b. map of_tree ((task old new).lines b)) old.report new.report result
+  pub reads : ForBytes (task old new).knows (λ b. AreNoted v b old.at.workspace.queue.items
+      → new.at.reads ≤ old.at.reads + ((task old new).own_reads b + line_reads * length ((task old new).lines b)))
+  pub spends : ForBytes (task old new).knows
+      (λ b. old.kept.reads_left ≤ new.kept.reads_left + (task old new).own_reads b)
   pub paid : Paid line_reads old.report new.report (old.at.reads + old.kept.reads_left)
       (new.at.reads + new.kept.reads_left) result
-  pub holds : IfOk result (λ x. ForBytes task.knows (task.after x))
+  pub holds : IfOk result (λ x. ForBytes (task old new).knows ((task old new).after x))
   pub leaves : DirectoryLeaves v old.at new.at new.kept.texts.kept_parent result
 
 -- these lines of all directories are said, by what is known of the bytes. Each directory's own blocks are
@@ -64,17 +66,18 @@ pub record ReportsTree {T : Type 0} (v : Layout) (lines : Volume → List TreeMe
   pub findings : LeavesFindings old.at.workspace new.at.workspace
   pub ready : CanRead v new.at.image new.at.workspace
 
--- the entries of the directory `dir` are reported: its Runs are read once, its path is made once, and for each
--- line `again_reads` reads are made at most, where the place of each directory is noted
-abbrev pub ReadsForEntries : Layout → (knows : List ℕ → Type 0) → (dir : ℕ) → (old new : LinesMoment Checking) → Type 0
-ReadsForEntries v knows dir old new = ForBytes knows (λ b. AreNoted v b old.at.workspace.queue.items
-    → new.at.reads ≤ old.at.reads + (directory_runs v b dir
-    + (path_reads + again_reads * length (directory_reported (volume_of v b) dir (passed_of old.at.workspace)))))
+-- the entries of a directory are reported: its Runs are read once, its path is made once, and for each line
+-- `again_reads` reads are made at most, where the place of each directory is noted
+abbrev pub ReadsForEntries : Layout → Directory → (old new : LinesMoment Checking) → Type 0
+ReadsForEntries v directory old new = ForBytes (entries_task v directory old new).knows (λ b.
+    AreNoted v b old.at.workspace.queue.items → new.at.reads ≤ old.at.reads + (directory_runs v b directory.number
+    + (path_reads + again_reads * length ((entries_task v directory old new).lines b))))
 
 -- where a first look at the directory `dir` makes sure that nothing is reported of its entries, its own blocks
 -- are read once, and the rest is read for the lines that come before these
-abbrev pub ReadsQuietOnce : Layout → (knows : List ℕ → Type 0) → (dir : ℕ) → (old new : LinesMoment Checking) → Type 0
-ReadsQuietOnce v knows dir old new = ForBytes knows (λ b. AreNoted v b old.at.workspace.queue.items
+abbrev pub ReadsQuietOnce : Layout → (dir : ℕ) → (old new : LinesMoment Checking) → Type 0
+ReadsQuietOnce v dir old new = ForBytes (sized_task v dir old new).knows (λ b.
+    AreNoted v b old.at.workspace.queue.items
     → are_quiet (volume_of v b) dir old.at.workspace.flags.items (passed_of old.at.workspace).stamps
     (roled_entries (volume_of v b) dir) ≡ true
     → new.at.reads

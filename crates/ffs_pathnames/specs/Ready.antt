@@ -1,12 +1,12 @@
 -- When paths of directories can be made, too, and what calls leave.
-use Rattle.std.specs.Prelude.{◌≡◌, ◌+◌, ◌*◌, ◌<◌, ◌≤◌, ℕ, Bool, IsTrue, Result, Ok, Err, slice_index}
+use Rattle.std.specs.Prelude.{◌≡◌, ◌+◌, ◌*◌, ◌<◌, ◌≤◌, ℕ, Bool, IsTrue, Result, Ok, Err}
 use Rattle.ffs_workspace.specs.Moments.{WorkMoment}
 use Rattle.ffs_image.specs.{Device.Device, declared.image.ImageFault.ImageFault}
-use Rattle.ffs_volume.specs.{declared.Layout.Layout, Encodings.Notes.cut_in}
+use Rattle.ffs_volume.specs.declared.Layout.{Layout}
 use Rattle.ffs_workspace.specs.{declared.workspace.Workspace.Workspace, Ready.CanRead, Leaves.LeavesSurvey}
 use Rattle.ffs_report.specs.{PhaseOutcome.ImageAfter, declared.fault.RunFault.RunFault}
 use Rattle.ffs_paths.specs.{Reads.{CanReadFor}, declared.kept_parent.KeptParent.KeptParent}
-use Rattle.ffs_pathnames.specs.{declared.look.Directory.Directory, Stamps.KeepParts}
+use Rattle.ffs_pathnames.specs.Stamps.{KeepParts}
 pub use Rattle.ffs_paths.specs.KeptParents.{ReadyWith, ReadyToPath, PathLeaves}
 
 -- all is ready for a call, and the inode x is there, where it is wanted
@@ -19,21 +19,10 @@ pub record ReadyToLook (v : Layout) (d : Device) (w : Workspace) (dir : ℕ) : T
   pub ready : CanReadFor v d w dir
   pub low : 2 ≤ dir
 
--- and its chunks can be read, by its cut
-pub record ReadyToRead (v : Layout) (d : Device) (w : Workspace) (directory : Directory) : Type 0 where
-  pub look : ReadyToLook v d w directory.number
-  pub cut : directory.cut ≡ cut_in (slice_index w.notes.items directory.number)
-
 -- the directory `dir` can be checked: its path can be made, and it is the root or one after it
 pub record ReadyToCheck (v : Layout) (d : Device) (w : Workspace) (s : KeptParent) (dir : ℕ) : Type 0 where
   pub path : ReadyToPath v d w s dir
   pub low : 2 ≤ dir
-
--- a path of the directory can be made, and its cut is the one that is noted: its entries can be reported
-pub record ReadyToReport (v : Layout) (d : Device) (w : Workspace) (s : KeptParent) (directory : Directory) :
-    Type 0 where
-  pub path : ReadyToPath v d w s directory.number
-  pub cut : directory.cut ≡ cut_in (slice_index w.notes.items directory.number)
 
 -- paths can be made after a call; where it failed, nothing is said of what is kept of a parent
 abbrev pub ReadyAfter : {T E : Type 0} → Layout → Device → Workspace → KeptParent → Result T E → Type 0

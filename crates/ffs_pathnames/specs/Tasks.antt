@@ -1,14 +1,12 @@
 -- What the calls of phase 2 are asked to say of a directory.
 use Rattle.std.specs.Prelude.{◌≡◌, ℕ, suc, ◌*◌, List}
-use Rattle.ffs_image.specs.Device.{Device}
 use Rattle.ffs_volume.specs.{declared.Layout.Layout, Directories.{PathnameCheck.directory_lines, Volumes.volume_of}}
 use Rattle.ffs_volume.specs.{Directories.PathnameCheck.{dir_header_lines, sized_dir_lines}, Messages.Kinds.TreeMessage}
 use Rattle.ffs_volume.specs.Costs.DirectoryReads.{directory_cost, directory_runs}
-use Rattle.ffs_workspace.specs.declared.workspace.Workspace.{Workspace}
 use Rattle.ffs_pathnames.specs.{Before.IsBeforeNoted, Begins.IsDirectoryBegun, ChecksNeeded.KeepsFlags, Gathers.passed_of}
 use Rattle.ffs_pathnames.specs.{PassedNames.{after_directory, directory_reported}, PassedRight.RemembersBefore}
-use Rattle.ffs_pathnames.specs.ReadsLeft.{LeftForBoth, LeftForLook, LeftForNext, LeftForRuns}
-use Rattle.ffs_pathnames.specs.declared.look.{Directory.Directory, FirstLook.FirstLook}
+use Rattle.ffs_pathnames.specs.{Moments.LinesMoment, ReadsLeft.{LeftForBoth, LeftForLook, LeftForNext, LeftForRuns}}
+use Rattle.ffs_pathnames.specs.declared.{checking.Checking.Checking, look.{Directory.Directory, FirstLook.FirstLook}}
 
 -- what is asked of a call for a directory: what it may know of the bytes, how often it reads the directory's
 -- own blocks at most, the lines that it says, and what holds of its answer then
@@ -20,39 +18,42 @@ pub record DirectoryTask (T : Type 0) : Type 1 where
 
 -- of `check_if_needed`: all lines of a directory, in two readings. What is remembered of names is right then, and
 -- places are noted
-abbrev pub check_task : Layout → Device → (w w' : Workspace) → (dir left : ℕ) → DirectoryTask (Unit {0})
-check_task v d w w' dir left = record {
-  knows = LeftForNext v d w dir left;
+abbrev pub check_task : Layout → (dir : ℕ) → (old new : LinesMoment Checking) → DirectoryTask (Unit {0})
+check_task v dir old new = record {
+  knows = LeftForNext v old.at.image old.at.workspace dir old.kept.reads_left;
   own_reads = λ b. 2 * directory_cost v b dir;
   lines = λ b. directory_lines (volume_of v b) dir;
-  after = λ _ b. IsBeforeNoted v d.contents w' (suc dir) b × KeepsFlags w w';
+  after = λ _ b. IsBeforeNoted v old.at.image.contents new.at.workspace (suc dir) b
+      × KeepsFlags old.at.workspace new.at.workspace;
 }
 
 -- of `check_directory`: the same of one that isn't of size 0; of noted places nothing is said
-abbrev pub sized_task : Layout → Device → (w w' : Workspace) → (dir left : ℕ) → DirectoryTask (Unit {0})
-sized_task v d w w' dir left = record {
-  knows = LeftForBoth v d w dir left;
+abbrev pub sized_task : Layout → (dir : ℕ) → (old new : LinesMoment Checking) → DirectoryTask (Unit {0})
+sized_task v dir old new = record {
+  knows = LeftForBoth v old.at.image old.at.workspace dir old.kept.reads_left;
   own_reads = λ b. 2 * directory_cost v b dir;
   lines = λ b. sized_dir_lines (volume_of v b) dir;
-  after = λ _ b. RemembersBefore (volume_of v b) (suc dir) (passed_of w') × KeepsFlags w w';
+  after = λ _ b. RemembersBefore (volume_of v b) (suc dir) (passed_of new.at.workspace)
+      × KeepsFlags old.at.workspace new.at.workspace;
 }
 
 -- of `begin_directory`: the first look, which is one reading, and the lines before those of the entries. Then: what the
 -- look found, and stamps
-abbrev pub begin_task : Layout → Device → (w w' : Workspace) → (dir left : ℕ) → DirectoryTask FirstLook
-begin_task v d w w' dir left = record {
-  knows = LeftForLook v d w dir left;
+abbrev pub begin_task : Layout → (dir : ℕ) → (old new : LinesMoment Checking) → DirectoryTask FirstLook
+begin_task v dir old new = record {
+  knows = LeftForLook v old.at.image old.at.workspace dir old.kept.reads_left;
   own_reads = λ b. directory_cost v b dir;
   lines = λ b. dir_header_lines (volume_of v b) dir;
-  after = λ f b. IsDirectoryBegun v b dir w f w';
+  after = λ f b. IsDirectoryBegun v b dir old.at.workspace f new.at.workspace;
 }
 
 -- of `report_entries`: the second reading, of the Runs of a known inode, and the lines of the entries. Then these are
 -- passed
-abbrev pub entries_task : Layout → Device → (w w' : Workspace) → Directory → (left : ℕ) → DirectoryTask (Unit {0})
-entries_task v d w w' directory left = record {
-  knows = LeftForRuns v d w directory left;
+abbrev pub entries_task : Layout → Directory → (old new : LinesMoment Checking) → DirectoryTask (Unit {0})
+entries_task v directory old new = record {
+  knows = LeftForRuns v old.at.image old.at.workspace directory old.kept.reads_left;
   own_reads = λ b. directory_runs v b directory.number;
-  lines = λ b. directory_reported (volume_of v b) directory.number (passed_of w);
-  after = λ _ b. after_directory (volume_of v b) directory.number (passed_of w) ≡ passed_of w';
+  lines = λ b. directory_reported (volume_of v b) directory.number (passed_of old.at.workspace);
+  after = λ _ b. after_directory (volume_of v b) directory.number (passed_of old.at.workspace)
+      ≡ passed_of new.at.workspace;
 }

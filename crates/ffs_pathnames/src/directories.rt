@@ -3,7 +3,7 @@
 ghost use Rattle.std.specs.Prelude.{◌≡◌, ◌-◌, ◌<◌, ◌≤◌, ℕ, false};
 ghost use Rattle.ffs_volume.specs.{Messages.Kinds.lines_from, Directories.PathnameCheck.directory_lines};
 ghost use Rattle.ffs_volume.specs.Blocks.Inodes.{inodes_of};
-ghost use Rattle.ffs_pathnames.specs.{ReadsLeft.LeftForBoth, Ready.ReadyToCheck};
+ghost use Rattle.ffs_pathnames.specs.Ready.{ReadyToCheck};
 ghost use Rattle.ffs_pathnames.specs.Before.{ListsInode, ListsInodes, IsFirstToCheck, needs_check};
 ghost use Rattle.ffs_pathnames.specs.DirectoryLines.{ReadsQuietOnce, ReportsDirectory, ReportsTree};
 ghost use Rattle.ffs_pathnames.specs.{Tasks.{begin_task, check_task, sized_task}, Moments.lines_moment};
@@ -116,9 +116,7 @@ fn check_if_needed<I: Image, W: Output>(
     requires { ReadyToCheck geometry.now.layout (I.device image.old) workspace.old
         checking.old.texts.kept_parent number }
 
-    ensures lines { ReportsDirectory geometry.now.layout
-        (check_task geometry.now.layout (I.device image.old) workspace.old workspace.new number
-        checking.old.reads_left)
+    ensures lines { ReportsDirectory geometry.now.layout (check_task geometry.now.layout number)
         (lines_moment I.Image W.Output image.old workspace.old report.old checking.old)
         (lines_moment I.Image W.Output image.new workspace.new report.new checking.new) result }
 
@@ -144,14 +142,10 @@ fn check_directory<I: Image, W: Output>(
 ) -> Result<(), RunFault>
     requires { ReadyToCheck geometry.now.layout (I.device image.old) workspace.old
         checking.old.texts.kept_parent dir }
-    ensures lines { ReportsDirectory geometry.now.layout
-        (sized_task geometry.now.layout (I.device image.old) workspace.old workspace.new dir
-        checking.old.reads_left)
+    ensures lines { ReportsDirectory geometry.now.layout (sized_task geometry.now.layout dir)
         (lines_moment I.Image W.Output image.old workspace.old report.old checking.old)
         (lines_moment I.Image W.Output image.new workspace.new report.new checking.new) result }
-    ensures quiet { ReadsQuietOnce geometry.now.layout
-        (LeftForBoth geometry.now.layout (I.device image.old) workspace.old dir
-        checking.old.reads_left) dir
+    ensures quiet { ReadsQuietOnce geometry.now.layout dir
         (lines_moment I.Image W.Output image.old workspace.old report.old checking.old)
         (lines_moment I.Image W.Output image.new workspace.new report.new checking.new) }
 {
@@ -162,7 +156,6 @@ fn check_directory<I: Image, W: Output>(
     let directory = Directory {
         number: dir,
         inode: looked.inode,
-        cut: workspace.noted_cut(dir),
     };
     report_entries(geometry, image, workspace, checking, &directory, report)
 }
@@ -179,9 +172,7 @@ fn begin_directory<I: Image, W: Output>(
 ) -> Result<FirstLook, RunFault>
     requires { ReadyToCheck geometry.now.layout (I.device image.old) workspace.old
         checking.old.texts.kept_parent dir }
-    ensures { ReportsDirectory geometry.now.layout
-        (begin_task geometry.now.layout (I.device image.old) workspace.old workspace.new dir
-        checking.old.reads_left)
+    ensures { ReportsDirectory geometry.now.layout (begin_task geometry.now.layout dir)
         (lines_moment I.Image W.Output image.old workspace.old report.old checking.old)
         (lines_moment I.Image W.Output image.new workspace.new report.new checking.new) result }
 {

@@ -2,7 +2,7 @@
 ghost use Rattle.std.specs.Prelude.{◌≡◌, [], ◌∷◌};
 ghost use Rattle.ffs_names.specs.Windows.{CanReadChunks};
 ghost use Rattle.ffs_pathnames.specs.{Gathers.{roled_lines_by, roled_value}, Looks.roled_in};
-ghost use Rattle.ffs_pathnames.specs.{Ready.{ReadyToPath, ReadyToReport}, ReadsLeft.LeftForRuns, NextChunks.ReadsNext, Moments.{lines_moment, second_reading}};
+ghost use Rattle.ffs_pathnames.specs.{Ready.ReadyToPath, NextChunks.ReadsNext, Moments.{lines_moment, second_reading}};
 ghost use Rattle.ffs_pathnames.specs.{DirectoryLines.{ReadsForEntries, ReportsDirectory}, Tasks.entries_task, EntryLines.{PassesEntries, ReportsOneEntry}};
 
 use crate::checking::Checking;
@@ -32,20 +32,18 @@ pub fn report_entries<I: Image, W: Output>(
     directory: &Directory,
     report: &mut Report<'_, W>,
 ) -> Result<(), RunFault>
-    requires { ReadyToReport geometry.now.layout (I.device image.old) workspace.old
-        checking.old.texts.kept_parent directory.now }
+    requires { ReadyToPath geometry.now.layout (I.device image.old) workspace.old
+        checking.old.texts.kept_parent directory.now.number }
     ensures lines { ReportsDirectory geometry.now.layout
-        (entries_task geometry.now.layout (I.device image.old) workspace.old workspace.new
-        directory.now checking.old.reads_left)
+        (entries_task geometry.now.layout directory.now)
         (lines_moment I.Image W.Output image.old workspace.old report.old checking.old)
         (lines_moment I.Image W.Output image.new workspace.new report.new checking.new) result }
-    ensures once { ReadsForEntries geometry.now.layout
-        (LeftForRuns geometry.now.layout (I.device image.old) workspace.old directory.now
-        checking.old.reads_left) directory.now.number
+    ensures once { ReadsForEntries geometry.now.layout directory.now
         (lines_moment I.Image W.Output image.old workspace.old report.old checking.old)
         (lines_moment I.Image W.Output image.new workspace.new report.new checking.new) }
 {
-    let mut chunks = Chunks::start(geometry, &directory.inode, directory.cut);
+    let cut = workspace.noted_cut(directory.number);
+    let mut chunks = Chunks::start(geometry, &directory.inode, cut);
     let mut bytes = [0u8; DIRBLKSIZ];
     checking.texts.path_settled = false;
     'chunks: while let Some(offset) = next_chunk(

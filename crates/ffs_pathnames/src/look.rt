@@ -10,7 +10,7 @@ ghost use Rattle.ffs_image.specs.Known.{ForBytes};
 ghost use Rattle.ffs_pathnames.specs.{DirectoryContext.{DirectoryContext, KnowsDirectory}};
 ghost use Rattle.ffs_pathnames.specs.{ReadsLeft.LeftForLook, DirectoryLooks.{IsChunksLook, IsFirstLook, LooksAt, StampsOwn}};
 ghost use Rattle.ffs_pathnames.specs.{DirectoryLooks.TakesLook, StartChunks.start_chunk, Looks.{StampsEntries, roled_in}};
-ghost use Rattle.ffs_pathnames.specs.{Ready.{ReadyToLook, ReadyToRead}, Sees.{CanLook, CanStamp, Sees, stamps_in}};
+ghost use Rattle.ffs_pathnames.specs.{Ready.ReadyToLook, Sees.{CanLook, CanStamp, Sees, stamps_in}};
 ghost use Rattle.ffs_layout.specs.Entry.{entry_value};
 ghost use Rattle.ffs_pathnames.specs.PassedNames as names;
 
@@ -31,8 +31,6 @@ pub struct Directory {
     pub number: u32,
     /// Its inode.
     pub inode: Inode,
-    /// Its cut (`Workspace::noted_cut`).
-    pub cut: u32,
 }
 
 /// What a look at all chunks of a directory finds.
@@ -115,11 +113,7 @@ fn look_directory_unlimited<I: Image>(
         (λ b. I.reads image.new ≤ I.reads image.old + directory_cost geometry.now.layout b dir) }
 {
     let inode = workspace.windows.table.inode_by_part(geometry, dir, image)?;
-    let directory = Directory {
-        number: dir,
-        inode,
-        cut: workspace.noted_cut(dir),
-    };
+    let directory = Directory { number: dir, inode };
     let chunks = look_chunks(geometry, image, workspace, &directory, start)?;
     Ok(FirstLook { inode, chunks })
 }
@@ -169,7 +163,8 @@ fn look_chunks<I: Image>(
     directory: &Directory,
     start: &mut [u8; DIRBLKSIZ],
 ) -> Result<ChunksLook, ImageFault>
-    requires { ReadyToRead geometry.now.layout (I.device image.old) workspace.old directory.now }
+    requires { ReadyToLook geometry.now.layout (I.device image.old) workspace.old
+        directory.now.number }
     ensures looks { LooksAt geometry.now.layout
         (KnowsDirectory geometry.now.layout (I.device image.old) workspace.old directory.now)
         (λ c b. IsChunksLook geometry.now.layout b directory.now.number workspace.old c start.new
@@ -181,6 +176,7 @@ fn look_chunks<I: Image>(
         (λ b. I.reads image.new
         ≤ I.reads image.old + directory_runs geometry.now.layout b directory.now.number) }
 {
+    let cut = workspace.noted_cut(directory.number);
     let inodes = Inodes {
         kinds: workspace.kinds.as_slice(),
         marked: &workspace.marked,
@@ -191,7 +187,7 @@ fn look_chunks<I: Image>(
     // In phase 2 this list has the words of directories (`Workspace::queue`).
     let words = &mut workspace.queue;
     let order = geometry.layout.order;
-    let mut chunks = Chunks::start(geometry, &directory.inode, directory.cut);
+    let mut chunks = Chunks::start(geometry, &directory.inode, cut);
     let mut bytes = [0u8; DIRBLKSIZ];
     let mut quiet = true;
     let mut sound = true;

@@ -109,7 +109,7 @@ returns-in_err-report_header g c =
         image = image_same (Unit {0}) FirstLook _ _ _ c.in_err-report_header.field-0.0 looks.looks.leaves.read
             said.leaves.image;
         survey = leaves_more lists.survey (windows_leave _ _ said.leaves.lists);
-        places = keep_more lists.places (windows_keep c.look_directory.new.workspace c.report_header.new.workspace
+        places = keep_more _ _ _ lists.places (windows_keep c.look_directory.new.workspace c.report_header.new.workspace
             said.leaves.lists);
         ready = said.leaves.ready;
       };
@@ -133,7 +133,7 @@ returns g c =
       leaves = record {
         image = said.leaves.image ∙ looks.looks.leaves.read;
         survey = leaves_more lists.survey (windows_leave _ _ said.leaves.lists);
-        places = keep_more lists.places (windows_keep c.look_directory.new.workspace c.report_header.new.workspace
+        places = keep_more _ _ _ lists.places (windows_keep c.look_directory.new.workspace c.report_header.new.workspace
             said.leaves.lists);
         ready = said.leaves.ready;
       };

@@ -1,17 +1,17 @@
 use Rattle.std.proofs.Common.{◌≡◌, true, refl, sym, ap, subst, ◌∙◌, ℕ, List, Err, length, arith}
-use Rattle.std.proofs.{lemmas.{Bool.both_ways, Result.err_from_is_err_and}, Math.Nat.mul-le-mul_left}
+use Rattle.std.proofs.{lemmas.{Bool.both_ways, Result.{err_from_is_err_and, IfOk-weaker}}, Math.Nat.mul-le-mul_left}
 use Rattle.ffs_image.specs.Device.{Device}
 use Rattle.ffs_volume.specs.{declared.Layout.Layout, Report.Reads.line_reads, Directories.PathnameCheck.sized_dir_lines}
 use Rattle.ffs_volume.specs.Directories.{PathnameCheck.dir_header_lines, Roles.roled_entries, Volumes.volume_of}
 use Rattle.ffs_volume.specs.Costs.DirectoryReads.{directory_cost, directory_runs}
-use Rattle.ffs_report.{specs.PhaseOutcome.ImageAfter, proofs.Reporting.{of_begins, of_part, of_fault, of_last}}
+use Rattle.ffs_report.proofs.Reporting.{of_begins, of_part, of_fault, of_last}
 use Rattle.ffs_report.proofs.{Reporting.{said_knows, reports_knowing}, Paying.{paid_answer, paid_fault, paid_then}}
-use Rattle.ffs_workspace.{specs.declared.workspace.Workspace.Workspace, proofs.Leaving.leaves_more}
+use Rattle.ffs_workspace.specs.declared.workspace.Workspace.{Workspace}
 use Rattle.ffs_pathnames.specs.{declared.look.FirstLook.FirstLook, Gathers.passed_of, PassedNames.PassedNames}
 use Rattle.ffs_pathnames.{specs.PassedNames.{entries_reported, is_flagged}, proofs.Begun.{image_same, said_same}}
 use Rattle.ffs_pathnames.proofs.Begun.{directory_is, lines_parts, quiet_parts, reported_parts, quiet_after}
-use Rattle.ffs_pathnames.proofs.{Begun.{reported_after, starts_within}, Passing.knows_on, StampLaws.keep_more}
-use Rattle.ffs_pathnames.proofs.{StampLaws.noted_kept, LineCounts.{checked_twice, lines_long}, Carrying.if_ok}
+use Rattle.ffs_pathnames.proofs.{Begun.{reported_after, starts_within}, Passing.knows_on, ReadyLaws.leaves_after}
+use Rattle.ffs_pathnames.proofs.{StampLaws.noted_kept, LineCounts.{checked_twice, lines_long}}
 use Rattle.ffs_pathnames.{proofs.ChecksNeededLaws.flags_after, specs.ReadsLeft.{LeftForBoth, LeftForLook, LeftForRuns}}
 use Rattle.ffs_pathnames.proofs.directories.check_directory.{Given.Over, Goals.{After-begin_directory, After-report_entries}}
 use Rattle.ffs_names.proofs.DirCosts.{cost_is as cost_of_dir}
@@ -31,8 +31,7 @@ second : (g : Over) (c : After-report_entries g) (b : List ℕ) →
     LeftForBoth c.args.geometry.now.layout (g.I.Image.device c.args.image.now) c.args.workspace.now c.args.dir
     c.args.checking.now.reads_left b →
     LeftForRuns c.args.geometry.now.layout (g.I.Image.device c.begin_directory.new.image)
-    c.begin_directory.new.workspace
-    (record { number = c.args.dir; inode = c.in_ok-looked.looked.inode; cut = c.noted_cut.result })
+    c.begin_directory.new.workspace (record { number = c.args.dir; inode = c.in_ok-looked.looked.inode })
     c.begin_directory.new.checking.reads_left b
 second g c b k =
     let v = c.args.geometry.now.layout in
@@ -126,7 +125,7 @@ returns-clause-lines g c =
           let cost = cost_of_dir v b c.args.dir k.knows.dir in
           omega (arith, one.spends b (first k), two.spends b (second_of b k), cost);
       paid = paid_then one.paid two.paid;
-      holds = if_ok c.report_entries.result _ _
+      holds = IfOk-weaker c.report_entries.result _ _
           (λ x p b k. (
             reported_after (volume_of v b) c.args.dir before m _ (dir b k) k.passed
                 (one.holds b (first k)).passed (p b (second_of b k)),
@@ -136,13 +135,7 @@ returns-clause-lines g c =
                 rw (p b (second_of b k)) at
                 (flags_after (volume_of v b) c.args.dir m (roled_entries (volume_of v b) c.args.dir) y mid),
           )) two.holds;
-      leaves = record {
-        image = subst (λ d. ImageAfter d (g.I.Image.device c.report_entries.new.image) c.report_entries.result)
-            one.leaves.image two.leaves.image;
-        survey = leaves_more one.leaves.survey two.leaves.survey;
-        places = keep_more one.leaves.places two.leaves.places;
-        ready = two.leaves.ready;
-      };
+      leaves = leaves_after one.leaves.image one.leaves.survey one.leaves.places two.leaves;
     }
 
 -- ---- how often it is read where the first look is enough

@@ -1,10 +1,10 @@
 use Rattle.std.proofs.Common.{refl, sym, ap, ◌∙◌, ◌≡◌, ◌==◌, ℕ, List, true, map, [], slice_index, arith}
-use Rattle.std.proofs.lemmas.Bool.{and_parts, both_ways}
+use Rattle.std.proofs.lemmas.{Bool.{and_parts, both_ways}, Result.IfOk-weaker}
 use Rattle.ffs_image.specs.Device.{Device}
 use Rattle.ffs_volume.specs.{declared.Layout.Layout, Messages.Kinds.of_tree}
 use Rattle.ffs_workspace.{specs.declared.workspace.Workspace.Workspace, proofs.Leaving.leaves_all}
 use Rattle.ffs_report.proofs.{Paying.paid_none, Reporting.{of_begins, of_same, reports_same, reports_knowing}}
-use Rattle.ffs_pathnames.proofs.Carrying.{directory_context, if_ok, lines_looked, lines_skipped, noted_next, before_skipped}
+use Rattle.ffs_pathnames.proofs.Carrying.{directory_context, lines_looked, lines_skipped, noted_next, before_skipped}
 use Rattle.ffs_pathnames.specs.ReadsLeft.{LeftForBoth, LeftForNext}
 use Rattle.ffs_pathnames.proofs.directories.check_if_needed.Goals as goal
 
@@ -24,7 +24,7 @@ returns-then-needs_check-clause-lines g c =
       reads = λ b k noted. rw (lines_looked looked k.0.before) (checked.reads b (both looked k) noted);
       spends = λ b k. checked.spends b (both looked k);
       paid = checked.paid;
-      holds = if_ok c.check_directory.result _ _
+      holds = IfOk-weaker c.check_directory.result _ _
           (λ x h b k. (
             noted_next refl checked.leaves.survey checked.leaves.places (h b (both looked k)).0 k.0,
             (h b (both looked k)).1,

@@ -5,7 +5,7 @@ use Rattle.ffs_layout.specs.Entry.{entry_value}
 use Rattle.ffs_report.proofs.Reporting.{of_begins, of_same, of_part, of_fault, said_knows, reports_knowing}
 use Rattle.ffs_report.proofs.Paying.{paid_none, paid_then}
 use Rattle.ffs_pathnames.specs.{Gathers.passed_of, PassedNames.{after_entries, entries_reported}}
-use Rattle.ffs_pathnames.{specs.DirectoryContext.{DirectoryContext, KnowsPath}, proofs.Begun.image_same}
+use Rattle.ffs_pathnames.{specs.DirectoryContext.{DirectoryContext, KnowsPath}, proofs.ReadyLaws.leaves_after}
 use Rattle.ffs_pathnames.proofs.{StampLaws.{keep_more, noted_kept}, Passing.{knows_on, entry_reported, entry_passed}}
 use Rattle.ffs_pathnames.proofs.LineCounts.{entry_counted, has_begun, read_all, read_more}
 use Rattle.ffs_pathnames.proofs.entries.report_chunk.{Given.Over, Goals.After-role_of}
@@ -61,7 +61,6 @@ returns-in_err-report_entry g c =
     let m = passed_of c.entries.workspace in
     let inv = c.entries.invariant in
     let lines = c.in_err-report_entry.ensures.lines in
-    let left = c.in_err-report_entry.ensures.leaves in
     let p = err_from_is_err_and c.from_residual.result c.from_residual.ensures.1 in
     rw (p.1, p.2) (record {
       lines = record {
@@ -80,12 +79,7 @@ returns-in_err-report_entry g c =
         paid = paid_then inv.paid lines.paid;
       };
       passed = tt;
-      leaves = record {
-        image = image_same (Unit {0}) (Unit {0}) _ _ _ c.in_err-report_entry.field-0.0 inv.device left.image;
-        survey = leaves_more inv.survey left.survey;
-        places = keep_more inv.places left.places;
-        ready = left.ready;
-      };
+      leaves = leaves_after inv.device inv.survey inv.places c.in_err-report_entry.ensures.leaves;
       current = c.in_err-report_entry.ensures.current ∙ inv.current;
     })
 
@@ -101,7 +95,7 @@ entries-preserved g c =
       ready = ok.leaves.ready;
       device = ok.leaves.image ∙ inv.device;
       survey = leaves_more inv.survey ok.leaves.survey;
-      places = keep_more inv.places ok.leaves.places;
+      places = keep_more _ _ _ inv.places ok.leaves.places;
       current = ok.current ∙ inv.current;
       path = λ b k. ok.lines.path b (know_path g at b k);
       settled = λ settled. ok.lines.settled (inv.settled settled);

@@ -11,8 +11,8 @@ use Rattle.ffs_report.proofs.Reporting.{of_begins, of_reads, of_same, of_part, o
 use Rattle.ffs_report.proofs.Paying.{paid_beside, paid_failed, paid_none, paid_then, paid_within}
 use Rattle.ffs_pathnames.specs.{Gathers.passed_of, DirectoryContext.DirectoryContext, PassedNames.after_entries}
 use Rattle.ffs_pathnames.{specs.PassedNames.entries_reported, proofs.StampLaws.{keep_more, noted_kept}}
-use Rattle.ffs_pathnames.proofs.{Begun.image_same, Passing.{chunk_reported, chunk_passed, knows_on, all_read}}
-use Rattle.ffs_pathnames.{proofs.ReadyLaws.{can_read_in, windows_next, windows_read}, specs.ReadsLeft.LeftForRuns}
+use Rattle.ffs_pathnames.proofs.{Passing.{chunk_reported, chunk_passed, knows_on, all_read}}
+use Rattle.ffs_pathnames.{proofs.ReadyLaws.{can_read_in, leaves_after, windows_next, windows_read}, specs.ReadsLeft.LeftForRuns}
 use Rattle.ffs_pathnames.proofs.{LineCounts.lines_long, SeesLaws.cut_here}
 use Rattle.ffs_pathnames.proofs.entries.report_entries.{Given.Over, Goals.After-next_chunk}
 use Rattle.ffs_pathnames.proofs.entries.report_entries.Goals as goal
@@ -58,17 +58,17 @@ chunks-init g c =
     let m = passed_of c.args.workspace.now in
     let known = LeftForRuns v (g.I.Image.device c.args.image.now) c.args.workspace.now x
     c.args.checking.now.reads_left in
-    let cut = λ (b : List ℕ) (k : known b). cut_here x.number c.args.geometry.now.sound c.requires.cut k.0.0.claims in
-    let seen = λ (b : List ℕ) (k : known b). all_read v b x.number x.inode x.cut (rest b c.start-chunks.result)
+    let cut = λ (b : List ℕ) (k : known b). cut_here x.number c.args.geometry.now.sound c.noted_cut-cut.ensures k.0.0.claims in
+    let seen = λ (b : List ℕ) (k : known b). all_read v b x.number x.inode c.noted_cut-cut.result (rest b c.start-chunks.result)
     c.args.geometry.now.sound k.0.0.dir k.0.1 (cut b k) (c.start-chunks.ensures.begins.chunks b) in
     let lines = λ (b : List ℕ) (k : known b).
     ap (λ es. map of_tree (entries_reported (volume_of v b) x.number m es)) (sym (seen b k)) in
     let few : (b : List ℕ) → known b → to_read b c.start-chunks.result ≤ directory_runs v b x.number = λ b k.
     let all = c.start-chunks.ensures.reads.to_read b in
     let left = c.start-chunks.ensures.begins.runs_left b in
-    omega (arith, all, left, runs_are v b x.number x.inode x.cut k.0.1 (cut b k)) in
+    omega (arith, all, left, runs_are v b x.number x.inode c.noted_cut-cut.result k.0.1 (cut b k)) in
     record {
-      ready = record { ready = c.requires.path.ready; kept_parent = c.requires.path.kept_parent };
+      ready = record { ready = c.requires.ready; kept_parent = c.requires.kept_parent };
       device = refl;
       geometry = c.start-chunks.ensures.reads.geometry;
       survey = leaves_all _;
@@ -84,6 +84,9 @@ chunks-init g c =
       said = of_same of_begins lines;
     }
 
+pub noted_cut-cut-requires : goal.noted_cut-cut-requires
+noted_cut-cut-requires g c = omega (arith, c.requires.ready.ready.made.notes, c.requires.number)
+
 pub next_chunk-requires : goal.next_chunk-requires
 next_chunk-requires g c = let inv = c.chunks.invariant in rw inv.geometry (can_read_in _ _ _ inv.ready.ready)
 
@@ -93,7 +96,7 @@ report_chunk-requires g c =
     let read = c.in_ok-offset.ensures in
     let next = windows_next _ _ _ c.chunks.workspace _ _ inv.ready read.leaves.read read.leaves.others
     (rw inv.geometry at read.leaves.ready) in
-    record { ready = next.ready; kept_parent = next.kept_parent; number = c.requires.path.number }
+    record { ready = next.ready; kept_parent = next.kept_parent; number = c.requires.number }
 
 pub chunks-preserved : goal.chunks-preserved
 chunks-preserved g c =
@@ -114,7 +117,7 @@ chunks-preserved g c =
       device = ok.leaves.image ∙ (read.leaves.read ∙ inv.device);
       geometry = read.leaves.geometry ∙ inv.geometry;
       survey = leaves_more (kept_between g at) ok.leaves.survey;
-      places = keep_more inv.places ok.leaves.places;
+      places = keep_more _ _ _ inv.places ok.leaves.places;
       held = λ b k noted.
           let took = read.takes.reads (inv.held b k noted) b (now g at b k) (enough g at b k) in
           let few = c.report_chunk.ensures.lines.counted b (known b k)
@@ -197,7 +200,6 @@ returns-in_err-report_chunk-clause-lines g c =
     (λ q. chunk_of q.layout.order c.in-Some.offset c.next_chunk.new.bytes ∷ rest b c.next_chunk.new.chunks) inv.geometry in
     let fault = c.in_err-report_chunk.field-0.0 in
     let lines = c.in_err-report_chunk.ensures.lines in
-    let left = c.in_err-report_chunk.ensures.leaves in
     let p = err_from_is_err_and c.from_residual-in_err-report_chunk.result
     c.from_residual-in_err-report_chunk.ensures.1 in
     rw (p.1, p.2) (record {
@@ -218,12 +220,8 @@ returns-in_err-report_chunk-clause-lines g c =
           (omega arith) read.takes.most in
           paid_then looked (paid_beside c.next_chunk.new.reads_left lines.paid);
       holds = tt;
-      leaves = record {
-        image = image_same (Unit {0}) (Unit {0}) _ _ _ fault (read.leaves.read ∙ inv.device) left.image;
-        survey = leaves_more (kept_between g at) left.survey;
-        places = keep_more inv.places left.places;
-        ready = left.ready;
-      };
+      leaves = leaves_after (read.leaves.read ∙ inv.device) (kept_between g at) inv.places
+          c.in_err-report_chunk.ensures.leaves;
     })
 
 pub returns-clause-lines : goal.returns-clause-lines

@@ -58,12 +58,11 @@ returns g c =
           }) (claims_left v b before here kept k.claims) (survey_left v b before here kept k.survey) in
           passes (volume_of v b) c.args.entry.now.dir (roled_value c.args.entry.now)
           (ap (λ (w : Workspace). w.flags.items) left.lists)
-          (ap (λ (w : Workspace). (passed_of w).stamps) left.lists) (passed.after (volume_of v b) shows)
-          refl refl;
+          (ap (λ (w : Workspace). (passed_of w).stamps) left.lists) (passed.after (volume_of v b) shows);
       leaves = record {
         image = left.image;
         survey = leaves_more kept surveyed;
-        places = keep_more (windows_keep before here left.lists) passed.words.places;
+        places = keep_more _ _ _ (windows_keep before here left.lists) passed.words.places;
         ready = record {
           ready = ready_passed _ _ here _ _ left.ready.ready passed.flags passed.words.long;
           kept_parent = kept_parent_on _ _ _ _ _ _ refl surveyed passed.words.places left.ready.kept_parent;

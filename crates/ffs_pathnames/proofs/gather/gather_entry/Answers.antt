@@ -1,9 +1,9 @@
-use Rattle.std.proofs.{Common.{ap, arith, if◌then◌else◌, ◌∙◌}, lemmas.Result.err_from_is_err_and}
+use Rattle.std.proofs.{Common.{ap, arith, if◌then◌else◌, ◌∙◌}, lemmas.Result.{err_from_is_err_and, IfOk-weaker}}
 use Rattle.ffs_volume.specs.Report.Reads.{path_reads}
 use Rattle.ffs_workspace.proofs.Leaving.{windows_leave}
 use Rattle.ffs_paths.proofs.{Climbed.{few_more, few_then}, Keeping.reads_then, Sparing.on_all}
-use Rattle.ffs_pathnames.proofs.{Carrying.if_ok, LineCounts.places_on, Passing.knows_on, StampLaws.windows_keep}
-use Rattle.ffs_pathnames.proofs.{PathOnce.{begin_most, begin_once, verdict_most}, ReadyLaws.gather_failed}
+use Rattle.ffs_pathnames.proofs.{LineCounts.places_on, Passing.knows_on, StampLaws.windows_keep}
+use Rattle.ffs_pathnames.proofs.{PathOnce.{begin_alone, begin_once, verdict_most}, ReadyLaws.gather_failed}
 use Rattle.ffs_pathnames.proofs.gather.gather_entry.Goals as goal
 
 pub returns-in_err-make_path_once : goal.returns-in_err-make_path_once
@@ -13,12 +13,7 @@ returns-in_err-make_path_once g c =
     rw (p.1, p.2) (record {
       enough = tt;
       path = made.makes.makes.path;
-      once = record {
-        settled = tt;
-        stays = made.makes.makes.stays;
-        again = λ before b k. let same = ap g.I.Image.reads (made.held before).0 in omega (arith, same);
-        once = λ b k. let most = begin_most made b k in omega (arith, most);
-      };
+      once = begin_alone made tt;
       leaves = gather_failed c.in_err-make_path_once.field-0.0
           (record { path = made.makes.makes.leaves; most = made.makes.most }) (omega arith);
     })
@@ -33,7 +28,7 @@ returns g c =
     let read = made.makes.leaves.reads in
     let left = c.gather_paths_and_attr.ensures.leaves in
     record {
-      enough = if_ok c.gather_paths_and_attr.result _ _
+      enough = IfOk-weaker c.gather_paths_and_attr.result _ _
           (λ a h b k. h c.args.entry.now.dir b
           (knows_on v _ _ c.args.workspace.now c.make_path_once.new.workspace c.args.entry.now.dir b
           (ap (λ d. d.contents) read.read)

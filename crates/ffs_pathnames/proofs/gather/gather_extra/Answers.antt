@@ -1,8 +1,8 @@
-use Rattle.std.proofs.{Common.{ap, ◌∙◌, arith}, lemmas.Result.err_from_is_err_and}
+use Rattle.std.proofs.{Common.{ap, ◌∙◌, arith}, lemmas.Result.{err_from_is_err_and, IfOk-weaker}}
 use Rattle.ffs_volume.specs.Directories.{Naming.graph_of, Volumes.volume_of}
 use Rattle.ffs_paths.proofs.Sparing.{on_all}
-use Rattle.ffs_pathnames.proofs.{Carrying.if_ok, ReadyLaws.{gather_failed, leaves_read}}
-use Rattle.ffs_pathnames.proofs.PathOnce.{begin_most, begin_once}
+use Rattle.ffs_pathnames.proofs.ReadyLaws.{gather_failed, leaves_read}
+use Rattle.ffs_pathnames.proofs.PathOnce.{begin_alone, begin_once}
 use Rattle.ffs_pathnames.proofs.gather.gather_extra.Goals as goal
 
 pub returns-in_err-make_path_once : goal.returns-in_err-make_path_once
@@ -13,12 +13,7 @@ returns-in_err-make_path_once g c =
       attr = tt;
       text = tt;
       path = made.makes.makes.path;
-      once = record {
-        settled = tt;
-        stays = made.makes.makes.stays;
-        again = λ before b k. let same = ap g.I.Image.reads (made.held before).0 in omega (arith, same);
-        once = λ b k. let most = begin_most made b k in omega (arith, most);
-      };
+      once = begin_alone made tt;
       leaves = gather_failed c.in_err-make_path_once.field-0.0
           (record { path = made.makes.makes.leaves; most = made.makes.most }) (omega arith);
     })
@@ -28,7 +23,7 @@ returns g c =
     let made = c.in_ok-make_path_once.ensures.makes in
     let read = c.read_attr.ensures.reads in
     record {
-      attr = if_ok c.read_attr.result _ _
+      attr = IfOk-weaker c.read_attr.result _ _
           (λ a h b k. h b (ap (λ d. d.contents) made.makes.leaves.reads.read ∙ k.gives_bytes))
           c.read_attr.ensures.attr;
       text = on_all c.read_attr.result _

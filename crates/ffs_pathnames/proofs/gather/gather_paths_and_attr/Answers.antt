@@ -1,6 +1,7 @@
 use Rattle.std.proofs.Common.{ap, arith, ◌∙◌}
 use Rattle.ffs_volume.specs.Report.Reads.{path_reads}
-use Rattle.ffs_pathnames.{specs.Gathers.if_wanted, proofs.{Carrying.if_ok, ReadyLaws.leaves_read}}
+use Rattle.std.proofs.lemmas.Result.{IfOk-weaker}
+use Rattle.ffs_pathnames.{specs.Gathers.if_wanted, proofs.ReadyLaws.leaves_read}
 use Rattle.ffs_pathnames.proofs.gather.gather_paths_and_attr.Goals as goal
 
 pub gather_named_path-requires : goal.gather_named_path-requires
@@ -11,7 +12,7 @@ returns g c =
     let path = c.in_ok-gather_named_path.ensures in
     let wants = c.asks_path-wanted.ensures in
     record {
-      enough = if_ok c.gather_own_path_and_attr.result _ _
+      enough = IfOk-weaker c.gather_own_path_and_attr.result _ _
           (λ a e dir b k p. e b (ap (λ x. x.contents) path.leaves.path.reads.read ∙ k.gives_bytes) dir
           c.gather_named_path.new.texts.shown_directory.items
           (rw path.same.1 p) (λ q. path.path dir b k (wants ∙ q)))

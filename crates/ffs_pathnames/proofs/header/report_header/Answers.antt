@@ -1,10 +1,10 @@
-use Rattle.std.proofs.Common.{arith, ◌≡◌, refl, sym, ap, ◌∙◌, ℕ, List, [], map, append-nil, ◌≤◌, ◌++◌, length}
+use Rattle.std.proofs.Common.{arith, ◌≡◌, refl, sym, ap, ◌∙◌, ℕ, List, map, ◌≤◌, length}
 use Rattle.std.proofs.lemmas.Result.{err_from_is_err_and}
 use Rattle.ffs_volume.specs.{Messages.Kinds.of_tree, Directories.{PathnameCheck.attributes, Naming.graph_of}}
 use Rattle.ffs_volume.specs.Directories.{PathnameCheck.header_lines, Paths.dir_path, Volumes.volume_of}
 use Rattle.ffs_volume.proofs.VerdictLaws.{header_silent, some_header}
-use Rattle.ffs_report.proofs.{Reports.said_none, Paying.{paid_none, paid_reads, paid_says, paid_stops}}
-use Rattle.ffs_report.proofs.Reporting.{of_begins, of_says, of_stops, of_reads}
+use Rattle.ffs_report.proofs.Paying.{paid_none, paid_reads, paid_says, paid_stops}
+use Rattle.ffs_report.proofs.Reporting.{reads_first, says_all, says_none, stops_all}
 use Rattle.ffs_pathnames.specs.HeaderValues.{defects_value, facts_lines, KnowsHeader}
 use Rattle.ffs_pathnames.proofs.{Begun.attr_is, LineCounts.{by_line, few_none, knows_places, some_said}}
 use Rattle.ffs_paths.proofs.Climbed.{few_more}
@@ -28,8 +28,8 @@ lines_are : (g : Over) (c : After-say_header g) (b : List ℕ) →
     KnowsHeader c.args.geometry.now.layout (g.I.Image.device c.args.image.now) c.args.workspace.now c.args.header b →
     map of_tree (facts_lines (volume_of c.args.geometry.now.layout b) c.args.header)
     ≡ map of_tree (header_lines (defects_value c.header_defects-defects.result)
-    c.args.header.attr c.as_slice.result.now) ++ []
-lines_are g c b k = grind (arith, attr_is, append-nil)
+    c.args.header.attr c.as_slice.result.now)
+lines_are g c b k = grind (arith, attr_is)
 
 pub returns-then-is_silent : goal.returns-then-is_silent
 returns-then-is_silent g c =
@@ -37,15 +37,11 @@ returns-then-is_silent g c =
     let s = c.args.header in
     let n = c.header_defects-defects.result in
     record {
-      text = record {
-        messages = [];
-        right = λ b k. sym (ap (map of_tree)
-            (ap (λ m. header_lines m (attributes (volume_of v b) s.attr.number) (dir_path (graph_of (volume_of v b)) s.attr.number))
-            (sym c.header_defects-defects.ensures)
-            ∙ header_silent (defects_value n) _ _
-            (header_value_silent n ∙ (sym c.is_silent.ensures ∙ c.if-is_silent.true))));
-        said = said_none _;
-      };
+      text = says_none (λ b k. ap (map of_tree)
+          (ap (λ m. header_lines m (attributes (volume_of v b) s.attr.number) (dir_path (graph_of (volume_of v b)) s.attr.number))
+          (sym c.header_defects-defects.ensures)
+          ∙ header_silent (defects_value n) _ _
+          (header_value_silent n ∙ (sym c.is_silent.ensures ∙ c.if-is_silent.true))));
       counted = λ b k noted. few_none;
       paid = paid_none (omega arith);
       leaves = record {
@@ -63,7 +59,7 @@ returns-in_err-put_path g c =
     let read = left.path.reads in
     let p = err_from_is_err_and c.from_residual.result c.from_residual.ensures.1 in
     rw (p.1, p.2) (record {
-      text = of_reads of_begins;
+      text = reads_first;
       counted = λ b k noted. by_line _ (few_more (left.path.counted b (knows_places _ _ _ _ b k.0 noted)) (omega arith)) (some_line g at b);
       paid = let most = left.most in paid_reads (omega (arith, most));
       leaves = record { image = read.read; lists = read.lists; current = read.current; ready = read.ready };
@@ -76,8 +72,7 @@ returns-in_err-say_header g c =
     let read = left.path.reads in
     let p = err_from_is_err_and c.from_residual-in_err-say_header.result c.from_residual-in_err-say_header.ensures.1 in
     rw (p.1, p.2) (record {
-      text = of_stops _ _ (λ b. []) _ _ _ _ _ of_begins (lines_are g at.After-say_header)
-          c.in_err-say_header.ensures;
+      text = stops_all (lines_are g at.After-say_header) c.in_err-say_header.ensures;
       counted = λ b k noted. by_line _ (few_more (left.path.counted b (knows_places _ _ _ _ b k.0 noted)) (omega arith))
           (some_line g at.After-put_path b);
       paid = paid_stops _ c.in_err-say_header.ensures (some_said_of g at.After-say_header)
@@ -91,8 +86,7 @@ returns g c =
     let left = c.in_ok-put_path.ensures.puts.leaves in
     let read = left.path.reads in
     record {
-      text = of_says {rest' = λ b. []} of_begins (lines_are g at.After-say_header)
-          c.in_ok-say_header.ensures;
+      text = says_all (lines_are g at.After-say_header) c.in_ok-say_header.ensures;
       counted = λ b k noted. by_line _ (few_more (left.path.counted b (knows_places _ _ _ _ b k.0 noted)) (omega arith))
           (some_line g at.After-put_path b);
       paid = paid_says _ c.in_ok-say_header.ensures (some_said_of g at.After-say_header)

@@ -19,7 +19,7 @@ chunks-init g c = let first = (passed_of c.args.workspace.now).stamps in record 
   geometry = c.start-chunks.ensures.reads.geometry;
   words = record { places = λ x. refl; long = refl };
   others = refl;
-  ready = can_read_in _ _ _ c.requires.look.ready.ready;
+  ready = can_read_in _ _ _ c.requires.ready.ready;
   quiet = λ b t h r small. ap (λ cs. are_quiet (volume_of c.args.geometry.now.layout b) c.args.directory.now.number
       c.args.workspace.now.flags.items first (flat_map roled_chunk cs)) (sym (c.start-chunks.ensures.begins.chunks b small));
   stamps = λ b t h r small. ap (λ cs. after_looks (volume_of c.args.geometry.now.layout b)
@@ -37,6 +37,9 @@ chunks-init g c = let first = (passed_of c.args.workspace.now).stamps in record 
       omega (arith, all, runs);
 }
 
+pub noted_cut-cut-requires : goal.noted_cut-cut-requires
+noted_cut-cut-requires g c = omega (arith, c.requires.ready.ready.ready.made.notes, c.requires.ready.number)
+
 pub look_chunk-looked-requires : goal.look_chunk-looked-requires
 look_chunk-looked-requires g c = grind arith
 
@@ -45,7 +48,7 @@ chunks-preserved g c =
     let v = c.args.geometry.now.layout in
     let x = c.args.directory.now in
     let w = c.args.workspace.now in
-    let made = c.requires.look.ready.ready.ready.made in
+    let made = c.requires.ready.ready.ready.made in
     let inv = c.chunks.invariant in
     let old = stamps_of c.args.workspace.now.parents.items c.chunks.words.items in
     let look = c.look_chunk-looked.ensures in
@@ -105,7 +108,7 @@ returns g c =
         found = λ b k.
             let dir = dir_is v b x.number k.0.dir in
             let small = subst (λ i. i.size < 2 ^ 31) (sym k.1) (dir_size v (inode_of v b x.number) dir.1) in
-            let cut = cut_here x.number sound c.requires.cut k.0.claims in
+            let cut = cut_here x.number sound c.noted_cut-cut.ensures k.0.claims in
             let chunks = chunks_are v b x.number sound dir.0 k.1 cut in
             let t = k.0.gives_bytes in
             let now = ap (λ d. d.contents) inv.same ∙ t in
@@ -125,7 +128,7 @@ returns g c =
             );
         leaves = record {
           lists = queue_leaves w _ refl inv.words.places;
-          ready = ready_looked v _ _ w _ _ c.requires.look.ready.ready
+          ready = ready_looked v _ _ w _ _ c.requires.ready.ready
               (ap (λ d. d.contents) (gap.leaves.read ∙ (read.read ∙ inv.same)))
               (others_stay w.windows c.chunks.windows c.gap_of.new.blocks c.next.new.window inv.others)
               (can_read_more v _ _ _ _ _ (rw inv.geometry at read.ready) (ap (λ d. d.contents) gap.leaves.read)
@@ -135,11 +138,11 @@ returns g c =
       };
       cost = λ b k.
           let t = k.0.gives_bytes in
-          let cut = cut_here x.number c.args.geometry.now.sound c.requires.cut k.0.claims in
+          let cut = cut_here x.number c.args.geometry.now.sound c.noted_cut-cut.ensures k.0.claims in
           let took = next.reads (inv.held b t) b (ap (λ d. d.contents) inv.same ∙ t) in
           let most = (gap.leaves.counted c.next.new.window took.held b
           (ap (λ d. d.contents) (read.read ∙ inv.same) ∙ t)).most in
-          omega (arith, most, took.paid, inv.reads b t, runs_are v b x.number x.inode x.cut k.1 cut);
+          omega (arith, most, took.paid, inv.reads b t, runs_are v b x.number x.inode c.noted_cut-cut.result k.1 cut);
     }
 
 -- a read failed
@@ -156,7 +159,7 @@ returns-in_err-offset g c =
         found = tt;
         leaves = record {
           lists = queue_leaves w _ refl inv.words.places;
-          ready = ready_looked v _ _ w _ _ c.requires.look.ready.ready
+          ready = ready_looked v _ _ w _ _ c.requires.ready.ready
               (read.read.contents ∙ ap (λ d. d.contents) inv.same)
               (others_stay w.windows c.chunks.windows c.next.new.blocks c.next.new.window inv.others)
               (rw inv.geometry at read.ready) inv.words.long;
@@ -166,9 +169,9 @@ returns-in_err-offset g c =
       };
       cost = λ b k.
           let t = k.0.gives_bytes in
-          let cut = cut_here x.number c.args.geometry.now.sound c.requires.cut k.0.claims in
+          let cut = cut_here x.number c.args.geometry.now.sound c.noted_cut-cut.ensures k.0.claims in
           let most = (c.next.ensures.reads (inv.held b t) b (ap (λ d. d.contents) inv.same ∙ t)).most in
-          omega (arith, most, inv.reads b t, runs_are v b x.number x.inode x.cut k.1 cut);
+          omega (arith, most, inv.reads b t, runs_are v b x.number x.inode c.noted_cut-cut.result k.1 cut);
     })
 
 pub returns-in_err-gap : goal.returns-in_err-gap
@@ -185,7 +188,7 @@ returns-in_err-gap g c =
         found = tt;
         leaves = record {
           lists = queue_leaves w _ refl inv.words.places;
-          ready = ready_looked v _ _ w _ _ c.requires.look.ready.ready
+          ready = ready_looked v _ _ w _ _ c.requires.ready.ready
               (gap.read.contents ∙ ap (λ d. d.contents) (read.read ∙ inv.same))
               (others_stay w.windows c.chunks.windows c.gap_of.new.blocks c.next.new.window inv.others)
               (can_read_more v _ _ _ _ _ (rw inv.geometry at read.ready) gap.read.contents
@@ -196,9 +199,9 @@ returns-in_err-gap g c =
       };
       cost = λ b k.
           let t = k.0.gives_bytes in
-          let cut = cut_here x.number c.args.geometry.now.sound c.requires.cut k.0.claims in
+          let cut = cut_here x.number c.args.geometry.now.sound c.noted_cut-cut.ensures k.0.claims in
           let took = c.in_ok-offset.ensures.reads (inv.held b t) b (ap (λ d. d.contents) inv.same ∙ t) in
           let most = (c.gap_of.ensures.leaves.counted c.next.new.window took.held b
           (ap (λ d. d.contents) (read.read ∙ inv.same) ∙ t)).most in
-          omega (arith, most, took.paid, inv.reads b t, runs_are v b x.number x.inode x.cut k.1 cut);
+          omega (arith, most, took.paid, inv.reads b t, runs_are v b x.number x.inode c.noted_cut-cut.result k.1 cut);
     })

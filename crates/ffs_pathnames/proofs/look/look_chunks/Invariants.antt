@@ -18,7 +18,7 @@ invariant-chunks g l =
     let w = l.fn.workspace in
     let before = (passed_of w).stamps in
     let now = stamps_of w.parents.items l.words.items in
-    let all = chunks_read v x.inode x.cut in
+    let all = chunks_read v x.inode l.cut in
     record {
       same : device l.image ≡ device l.initial.image;
       geometry : l.chunks.walk.geometry ≡ l.geometry;
@@ -32,13 +32,13 @@ invariant-chunks g l =
           after_looks (volume_of v b) x.number before (flat_map roled_chunk (all b))
           ≡ after_looks (volume_of v b) x.number now (flat_map roled_chunk (rest b l.chunks)));
       sound : of_bytes (λ b. x.inode.size < 2 ^ 31 → are_sound (all b) ≡ (l.sound && are_sound (rest b l.chunks)));
-      gap : of_bytes (λ b. has_gap (replayed_steps v x.cut fresh_replay (steps_of v x.inode b))
+      gap : of_bytes (λ b. has_gap (replayed_steps v l.cut fresh_replay (steps_of v x.inode b))
           ≡ (l.chunks.gap || gap_left b l.chunks));
       started : of_bytes (λ b. x.inode.size < 2 ^ 31 →
           find (λ c. c.offset == 0) (all b) ≡ start_chunk (rest b l.chunks) l.started l.order l.start);
       held : of_bytes (λ b. HoldsReading l.windows.blocks l.windows.current l.chunks);
       reads : of_bytes (λ b. g.I.Image.reads l.image + to_read b l.chunks
-          ≤ g.I.Image.reads l.initial.image + replayed_runs v x.cut fresh_replay (steps_of v x.inode b));
+          ≤ g.I.Image.reads l.initial.image + replayed_runs v l.cut fresh_replay (steps_of v x.inode b));
     }
 
 abbrev pub decreases-chunks : goal.decreases-chunks

@@ -1,8 +1,8 @@
-use Rattle.std.proofs.{Common.{◌∙◌, ◌≡◌, ◌≤◌, ◌+◌, ℕ, List, arith, false, sym}}
+use Rattle.std.proofs.{Common.{◌∙◌, ◌≡◌, ◌≤◌, ◌+◌, ℕ, List, arith, false, sym}, lemmas.Result.IfOk-weaker}
 use Rattle.ffs_image.{specs.{Limited.reads_asked}, proofs.Limits.read_over}
 use Rattle.ffs_workspace.proofs.Readiness.{can_read_same}
 use Rattle.ffs_volume.specs.Costs.DirectoryReads.{directory_cost}
-use Rattle.ffs_pathnames.{specs.DirectoryContext.DirectoryContext, proofs.Carrying.if_ok}
+use Rattle.ffs_pathnames.specs.DirectoryContext.{DirectoryContext}
 use Rattle.ffs_pathnames.proofs.{LimitedLaws.{LookedBy, looked}, look.look_directory.{Given.Over, Goals.After-is_spent}}
 use Rattle.ffs_pathnames.proofs.look.look_directory.Goals as goal
 
@@ -53,7 +53,7 @@ returns g c =
     let over = read_over _ _ c.look_directory_unlimited-looked.result (rw c.new-limited.ensures.device at left.read) in
     rw (image, c.left.ensures.value) (record {
       looks = record {
-        found = if_ok c.look_directory_unlimited-looked.result _ _ (λ e h b k. h b (known g at b k.0))
+        found = IfOk-weaker c.look_directory_unlimited-looked.result _ _ (λ e h b k. h b (known g at b k.0))
             c.look_directory_unlimited-looked.ensures.looks.found;
         leaves = record {
           lists = left.lists;

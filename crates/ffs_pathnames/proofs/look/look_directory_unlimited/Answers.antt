@@ -11,7 +11,7 @@ known : (g : Over) (c : After-look_chunks g) (b : List ℕ) → DirectoryContext
     KnowsDirectory c.args.geometry.now.layout (g.I.Image.device c.inode_by_part.new.image)
     (record c.args.workspace.now
     { windows = record c.args.workspace.now.windows { table = c.inode_by_part.new.self } })
-    (record { number = c.args.dir; inode = c.in_ok-inode.inode; cut = c.noted_cut.result }) b
+    (record { number = c.args.dir; inode = c.in_ok-inode.inode }) b
 known g c b k =
     let read = c.in_ok-inode.ensures.inode.reads in (
       record {
@@ -33,9 +33,6 @@ reads_few g c b k = grind (arith, known)
 
 pub inode_by_part-requires : goal.inode_by_part-requires
 inode_by_part-requires g c = grind arith
-
-pub noted_cut-requires : goal.noted_cut-requires
-noted_cut-requires g c = omega (arith, c.requires.ready.ready.ready.made.notes, c.requires.ready.number)
 
 pub look_chunks-requires : goal.look_chunks-requires
 look_chunks-requires g c = grind arith

@@ -6,10 +6,9 @@ use Rattle.ffs_workspace.specs.{Holds.HoldsBlockCheck, Ready.CanRead, declared.w
 use Rattle.ffs_pathnames.proofs.Findings.{findings_kept}
 use Rattle.ffs_pathnames.{specs.Before.{IsBefore, root_reported}, proofs.{LineCounts.lines_long, Carrying.goes_is}}
 use Rattle.ffs_pathnames.proofs.Carrying.{root_kind_is, root_marked_is, tree_is, tree_lines}
-use Rattle.ffs_pathnames.proofs.pass2.check_tree.{Given.Over, Goals.{After-report_root, After-check_directories}}
+use Rattle.ffs_pathnames.proofs.pass2.check_tree.{Given.Over, Goals.After-report_root}
 use Rattle.ffs_pathnames.specs.{DirectoryLines.ReportsTree, RootAnswers.AnswersRoot}
-use Rattle.ffs_pathnames.{proofs.Begun.image_same, specs.{declared.pass2.Root.Root, ChecksNeeded.ChecksLookedAt}}
-use Rattle.ffs_volume.specs.Costs.DirectoryReads.{directories_cost, looks_cost, places_cost}
+use Rattle.ffs_pathnames.{proofs.Begun.image_same, specs.declared.pass2.Root.Root}
 use Rattle.ffs_volume.specs.{Encodings.Kinds.is_dir_kind, Directories.{Roles.Volume, Volumes.volume_of}}
 use Rattle.ffs_volume.specs.Messages.Kinds.{of_tree, TreeMessage, Message, of_directory, stops_check}
 use Rattle.ffs_volume.specs.{Directories.PathnameCheck.{continues_after_root, pathname_lines}, Report.Reads.line_reads}
@@ -64,30 +63,11 @@ pub returns-in_ok-check_directories-in-Go-clause-root : goal.returns-in_ok-check
 returns-in_ok-check_directories-in-Go-clause-root g c = λ b k.
     c.in-Go.ensures ∙ goes g (goal.at.returns-in_ok-check_directories-in-Go-clause-root g c).After-report_root b k
 
--- the reads
-reads_few : (g : Over) (c : After-check_directories g) (b : List ℕ) →
-    map of_tree (pathname_lines (volume_of c.args.geometry.now.layout b))
-    ≡ map of_tree (root_reported c.index-kind.result.now c.index-marked.result.now)
-    ++ map of_tree (tree_lines c.args.geometry.now.layout b true) →
-    IsBefore c.args.geometry.now.layout (g.I.Image.device c.args.image.now).contents c.args.workspace.now 2 b →
-    g.I.Image.reads c.check_directories.new.image ≤ g.I.Image.reads c.args.image.now
-    + (3 * directories_cost c.args.geometry.now.layout b
-    + line_reads * length (pathname_lines (volume_of c.args.geometry.now.layout b)))
-reads_few g c b is k = search (arith, lines_long)
-
-looks_few : (g : Over) (c : After-check_directories g) (b : List ℕ) →
-    map of_tree (pathname_lines (volume_of c.args.geometry.now.layout b))
-    ≡ map of_tree (root_reported c.index-kind.result.now c.index-marked.result.now)
-    ++ map of_tree (tree_lines c.args.geometry.now.layout b true) →
-    IsBefore c.args.geometry.now.layout (g.I.Image.device c.args.image.now).contents c.args.workspace.now 2 b →
-    ChecksLookedAt c.args.geometry.now.layout b c.args.workspace.now →
-    g.I.Image.reads c.check_directories.new.image ≤ g.I.Image.reads c.args.image.now
-    + (places_cost c.args.geometry.now.layout b + looks_cost c.args.geometry.now.layout b
-    + line_reads * length (pathname_lines (volume_of c.args.geometry.now.layout b)))
-looks_few g c b is k checks =
-    let long = lines_long _ _ _ is in
-    let tree = c.check_directories.ensures.tree.looks b k checks in
-    omega (arith, tree, long)
+-- the root's line reads nothing
+few_more : (all root tree : List TreeMessage) (before after cost : ℕ) →
+    map of_tree all ≡ map of_tree root ++ map of_tree tree → after ≤ before + (cost + line_reads * length tree) →
+    after ≤ before + (cost + line_reads * length all)
+few_more all root tree before after cost is few = let long = lines_long _ _ _ is in omega (arith, few, long)
 
 -- what is said, what is read for it, and what is left, where nothing is read
 only_said : {T : Type 0} {v : Layout} {d : Device} {w : Workspace} {lines : Volume → List TreeMessage}
@@ -122,10 +102,9 @@ returns-in_err-check_directories-in-Go-clause-tree g c =
           (of_says of_begins
           (λ b k. lines_are g at.After-report_root b true k.claims c.in-Go.ensures) c.in_ok-report_root.ensures)
           (λ b k. sym (append-nil _)) tree.text;
-      reads = λ b k. reads_few g at.After-check_directories b
-          (lines_are g at.After-report_root b true k.claims c.in-Go.ensures) k;
-      looks = λ b k. looks_few g at.After-check_directories b
-          (lines_are g at.After-report_root b true k.claims c.in-Go.ensures) k;
+      reads = λ b k. few_more _ _ _ _ _ _ (lines_are g at.After-report_root b true k.claims c.in-Go.ensures) (tree.reads b k);
+      looks = λ b k checks. few_more _ _ _ _ _ _ (lines_are g at.After-report_root b true k.claims c.in-Go.ensures)
+          (tree.looks b k checks);
       paid = paid_fault fault
           (paid_then (paid_said _ c.in_ok-report_root.ensures (omega arith)) tree.paid);
       image = image_same (Unit {0}) Root _ _ _ fault refl tree.image;
@@ -143,10 +122,9 @@ returns-in_ok-check_directories-in-Go-clause-tree g c =
           (of_says of_begins
           (λ b k. lines_are g at.After-report_root b true k.claims c.in-Go.ensures) c.in_ok-report_root.ensures)
           (λ b k. sym (append-nil _)) tree.text;
-      reads = λ b k. reads_few g at.After-check_directories b
-          (lines_are g at.After-report_root b true k.claims c.in-Go.ensures) k;
-      looks = λ b k. looks_few g at.After-check_directories b
-          (lines_are g at.After-report_root b true k.claims c.in-Go.ensures) k;
+      reads = λ b k. few_more _ _ _ _ _ _ (lines_are g at.After-report_root b true k.claims c.in-Go.ensures) (tree.reads b k);
+      looks = λ b k checks. few_more _ _ _ _ _ _ (lines_are g at.After-report_root b true k.claims c.in-Go.ensures)
+          (tree.looks b k checks);
       paid = paid_answer
           (paid_then (paid_said _ c.in_ok-report_root.ensures (omega arith)) tree.paid);
       image = tree.image;
