@@ -1,5 +1,5 @@
 -- The magic number of a superblock, in a window on an image.
-use Rattle.std.proofs.Common.{◌≡◌, ℕ, ◌+◌, ◌*◌, ◌≤◌, ◌==◌, ◌||◌, ◌∙◌, Bool, true, false, List, [], ◌∷◌, length}
+use Rattle.std.proofs.Common.{◌≡◌, ℕ, ◌+◌, ◌*◌, ◌≤◌, ◌==◌, ◌||◌, ◌∙◌, Bool, true, false, List, length}
 use Rattle.std.proofs.Common.{Some, None, Err, take, drop, is_some, arith, refl, sym, ap, ap₂}
 use Rattle.std.{proofs.lemmas.List.get_or-take, specs.Prelude.if◌then◌else◌}
 use Rattle.ffs_volume.specs.declared.{Order.{Order, TheVariants.{Little, Big}}, constants.TheConstants.FS_MAGIC}

@@ -7,7 +7,7 @@ use Rattle.ffs_memory.specs.Account.{Account, RefusedOneMore}
 use Rattle.ffs_volume.specs.{declared.Layout.Layout, Disk.Superblock.Superblock}
 use Rattle.ffs_volume.specs.{Disk.Outcome.outcome, Laws.Geometry.IsAcceptedLayout}
 use Rattle.ffs_report.specs.{Sink.Sink, declared.fault.RunFault.TheVariants.{Read, Out}}
-use Rattle.ffs_image.specs.Known.{ForBytes, IsContents}
+use Rattle.ffs_image.specs.Known.{ForBytes}
 use Rattle.ffs_finding.specs.declared.find.FindFault.{FindFault, TheVariants.{Refused, Failed, NoMemory}}
 use Rattle.ffs_finding.specs.declared.request.Target.{Target, TheVariants.{Inode, Fields, Lost, Owner}}
 use Rattle.ffs_finding.specs.{declared.request.Command.TheVariants.InVolume}
