@@ -1,39 +1,64 @@
 -- A target found in a workspace that holds what phase 1 leaves: what its faults, and its lines, say of the command.
-use Rattle.std.proofs.Common.{◌≡◌, ◌&&◌, ℕ, Bool, List, [], Option, Err, refl}
+use Rattle.std.proofs.Common.{◌≡◌, ◌+◌, ◌≤◌, ℕ, Option, Err, refl}
 use Rattle.ffs_image.specs.Device.{Device}
 use Rattle.ffs_memory.specs.Account.{Account}
 use Rattle.ffs_volume.specs.{Disk.Superblock.Superblock}
 use Rattle.ffs_image.specs.Known.{ForBytes, IsContents}
-use Rattle.ffs_report.specs.declared.fault.RunFault.TheVariants.{Read, Out}
+use Rattle.ffs_report.specs.declared.fault.RunFault.{RunFault, TheVariants.{Read, Out}}
 use Rattle.ffs_workspace.specs.{declared.workspace.Workspace.Workspace, Holds.HoldsPhase1}
 use Rattle.ffs_finding.specs.declared.find.FindFault.{FindFault, TheVariants.{Refused, Failed, NoMemory}}
-use Rattle.ffs_finding.specs.{declared.request.Target.Target, Claims.{HoldsBlocks, TakesClaims, WithBlocks}, Fields.WithSuper, Outcome.PrintedTo}
-use Rattle.ffs_finding.specs.{Outcome.{any_line}, Headline.{PrintedAll, TargetAnswers}}
-use Rattle.ffs_finding.{specs.Headline.{finds_defects, target_lines}, proofs.Printing.{reads_first}}
+use Rattle.ffs_finding.specs.{declared.request.Target.Target, Claims.{TakesClaims, WithBlocks}, Fields.WithSuper, Outcome.Finds}
+use Rattle.ffs_finding.{specs.Headline.{FindsTarget, IsSectorFor, target_lines, target_reads}, proofs.Printing.{printed_knowing, reads_first}}
 use Rattle.ffs_check.specs.Moment.{Moment}
 
 module _ (target : Target) (sector : Option ℕ) (s : Superblock) (m : Moment) where
-  -- nothing was printed then
-  pub refused_answer : (d' : Device) (reads : ℕ) (held held' : Account) (fault : FindFault) →
+  -- nothing was printed then. Of `lost` and `owner` nothing is said of where a read fails
+  pub unclaimed_found : (d' : Device) (reads : ℕ) (held held' : Account) (fault : FindFault) →
+      ((at : ℕ) → IsSectorFor target sector s at) → reads ≤ m.reads + target_reads target s.layout →
       TakesClaims s.layout m.image d' held held' (Err fault) →
-      TargetAnswers target sector s m (record { image = d'; reads = reads; out = m.out }) (Err fault)
-  refused_answer d' reads held held' (Refused fault) p = absurd p
-  refused_answer d' reads held held' (Failed (Read fault)) p = (p.0, reads_first)
-  refused_answer d' reads held held' (Failed (Out fault)) p = absurd p
-  refused_answer d' reads held held' NoMemory p = (p.0, refl)
+      FindsTarget target sector s m (record { image = d'; reads = reads; out = m.out }) (Err fault)
+  unclaimed_found d' reads held held' (Refused fault) anywhere bound p = absurd p
+  unclaimed_found d' reads held held' (Failed (Read fault)) anywhere bound p = record {
+    answer = record { image = p.0; text = reads_first };
+    grounds = anywhere fault.sector;
+    reads = bound;
+  }
+  unclaimed_found d' reads held held' (Failed (Out fault)) anywhere bound p = absurd p
+  unclaimed_found d' reads held held' NoMemory anywhere bound p =
+      record { answer = (p.0, refl); grounds = tt; reads = bound }
 
-  module _ (m' : Moment) (w : Workspace)
-      (holds : ForBytes (IsContents m.image.contents) (λ b. HoldsPhase1 s.layout b w)) where
-    -- what phase 1 leaves says what belongs to whom
-    owners_in : (b : List ℕ) → HoldsPhase1 s.layout b w → HoldsBlocks s.layout b w
-    owners_in b h = record { used = h.used; kinds = h.kinds; notes = h.notes }
+  -- what phase 1 leaves says what belongs to whom
+  pub claimed_knows : (w : Workspace) → ForBytes (IsContents m.image.contents) (λ b. HoldsPhase1 s.layout b w) →
+      ForBytes (WithSuper m.image sector s) (λ b. WithBlocks s.layout m.image w b
+      × (target_lines target sector b s ≡ target_lines target sector b s))
+  claimed_knows w holds b k =
+      let h = holds b k.0 in ((k.0, record { used = h.used; kinds = h.kinds; notes = h.notes }), refl)
 
-    -- all lines were printed
-    pub all_answer : (defect : Bool) →
-        (p : PrintedTo (WithBlocks s.layout m.image w) (λ b. []) (λ b. target_lines target sector b s) m.out m'.out) →
-        defect ≡ (finds_defects target && any_line p.lines) → PrintedAll (finds_defects target)
-        (WithSuper m.image sector s) (λ b. target_lines target sector b s) m.out m'.out defect
-    all_answer defect p is = record {
-      printed = record { lines = p.lines; right = λ b k. p.right b (k.0, owners_in b (holds b k.0)); took = p.took };
-      defect_is = is;
-    }
+  -- a fault came after phase 1
+  pub claimed_fails : {T : Type 0} (w : Workspace) (between : ℕ) (m' : Moment) (fault : RunFault) →
+      ((at : ℕ) → IsSectorFor target sector s at) → m'.reads ≤ m.reads + target_reads target s.layout →
+      ForBytes (IsContents m.image.contents) (λ b. HoldsPhase1 s.layout b w) →
+      Finds {T = T} (WithBlocks s.layout m.image w) (λ b. target_lines target sector b s)
+      (record { image = m.image; reads = between; out = m.out }) m' (Err fault) →
+      FindsTarget target sector s m m' (Err (Failed fault))
+  claimed_fails w between m' (Read fault) anywhere bound holds p = record {
+    answer = record {
+      image = p.image;
+      text = record { rest = p.text.rest; printed = printed_knowing (claimed_knows w holds) p.text.printed };
+    };
+    grounds = anywhere fault.sector;
+    reads = bound;
+  }
+  claimed_fails w between m' (Out fault) anywhere bound holds p = record {
+    answer = record {
+      image = p.image;
+      text = record {
+        lines = p.text.lines;
+        rest = p.text.rest;
+        right = λ b k. p.text.right b (claimed_knows w holds b k).0;
+        broke_off = p.text.broke_off;
+      };
+    };
+    grounds = tt;
+    reads = bound;
+  }

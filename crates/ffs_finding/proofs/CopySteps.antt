@@ -1,8 +1,8 @@
 -- What is left of one sector, by what was found there.
 use Rattle.std.proofs.Common.{◌≡◌, ℕ, ◌+◌, ◌*◌, ◌≤◌, true, false, [], Option, Some, Ok, arith}
-use Rattle.ffs_image.specs.Device.{Device, ForContents, IsSized, Faulted}
+use Rattle.ffs_image.specs.Device.{Device, ForContents, IsSized}
 use Rattle.ffs_volume.specs.{Disk.{Outcome.outcome, Superblock.Superblock}, Find.Copies.copy_lines_of}
-use Rattle.ffs_layout.specs.Super.{ReadsSuper, IsUnreadable}
+use Rattle.ffs_layout.specs.Super.{ReadsSuper}
 use Rattle.ffs_walk.specs.{Windows.WindowHolds, declared.window.Window.Window}
 use Rattle.ffs_finding.{specs.Copies.{has_magic, super_reads}, proofs.Magics.no_magic}
 
@@ -17,17 +17,10 @@ pub one_read : (d : Device) (sector : ℕ) → ForContents d.contents (λ b. tru
 one_read d sector there b k = let is = there b k in grind arith
 
 -- the superblock that was read is the one of the image's bytes
-pub same_super : (d old new : Device) (sector : Option ℕ) (s : Superblock) → old ≡ d →
-    ReadsSuper old new sector (Ok s) →
-    (new ≡ d) × ForContents d.contents (λ b. Ok s ≡ outcome b sector)
-same_super d old new sector s same p = grind arith
-
--- a superblock that lies in the image and can't be read is a read that failed
-pub unread : (d old new : Device) (sector at : ℕ) → old ≡ d → sector * 512 + 1376 ≤ d.size →
-    IsUnreadable old new (Some sector) at → Faulted d new at
-unread d old new sector at same inside p = grind arith
+pub same_super : {d old new : Device} {sector : Option ℕ} {s : Superblock} → old ≡ d →
+    ReadsSuper old new sector (Ok s) → (new ≡ d) × ForContents d.contents (λ b. Ok s ≡ outcome b sector)
+same_super {d} {old} {new} {sector} {s} same p = grind arith
 
 -- the window holds what the image gives, which is the same after a read
-pub holds_on : (d d1 d2 : Device) (w : Window) → d1 ≡ d → d2.contents ≡ d.contents → WindowHolds d1.contents w →
-    WindowHolds d2.contents w
-holds_on d d1 d2 w same contents p = grind arith
+pub holds_on : {d d1 d2 : Device} {w : Window} → d1 ≡ d → d2 ≡ d → WindowHolds d1.contents w → WindowHolds d2.contents w
+holds_on {d} {d1} {d2} {w} same after p = grind arith

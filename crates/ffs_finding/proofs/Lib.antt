@@ -27,7 +27,6 @@
 --   ClaimTargets  a target found in a workspace that holds what phase 1 leaves
 --   Leaving       what a search leaves of a workspace
 --   Targets       a target found in a volume, as the command that asks for it
---   Ending        how a command ends, by its answer and the line of its fault
 --
 -- Texts and words:
 --   Printing      how lines are printed, one after another
@@ -43,7 +42,6 @@ pub mod Printing
 pub mod Ranges
 pub mod Magics
 pub mod Exponents
-pub mod Ending
 pub mod WrongFields
 pub mod CopyLaws
 pub mod Lines

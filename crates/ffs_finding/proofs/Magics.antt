@@ -1,7 +1,7 @@
 -- The magic number of a superblock, in a window on an image.
-use Rattle.std.proofs.Common.{◌≡◌, ℕ, ◌+◌, ◌*◌, ◌≤◌, ◌==◌, ◌||◌, ◌∙◌, Bool, true, false, List, [], ◌∷◌, length}
+use Rattle.std.proofs.Common.{◌≡◌, ℕ, ◌+◌, ◌*◌, ◌≤◌, ◌==◌, ◌||◌, ◌∙◌, Bool, true, false, List, length}
 use Rattle.std.proofs.Common.{Some, None, Err, take, drop, is_some, arith, refl, sym, ap, ap₂}
-use Rattle.std.specs.Prelude.{if◌then◌else◌}
+use Rattle.std.{proofs.lemmas.List.get_or-take, specs.Prelude.if◌then◌else◌}
 use Rattle.ffs_volume.specs.declared.{Order.{Order, TheVariants.{Little, Big}}, constants.TheConstants.FS_MAGIC}
 use Rattle.ffs_volume.specs.Disk.{Numbers.{number, u32_at, piece}, Superblock.order_of, Outcome.outcome}
 use Rattle.ffs_volume.{specs.declared.SuperFault.TheVariants.Magic, proofs.OutcomeLaws.outcome_magic}
@@ -11,16 +11,8 @@ use Rattle.ffs_finding.specs.Copies.{has_magic}
 -- a number of four bytes is that of the first four
 pub number_of_four : (order : Order) (xs : List ℕ) → number order 4 (take 4 xs) ≡ number order 4 xs
 unfolding number
-number_of_four Little [] = refl
-number_of_four Little (a ∷ []) = refl
-number_of_four Little (a ∷ b ∷ []) = refl
-number_of_four Little (a ∷ b ∷ c ∷ []) = refl
-number_of_four Little (a ∷ b ∷ c ∷ d ∷ xs) = refl
-number_of_four Big [] = refl
-number_of_four Big (a ∷ []) = refl
-number_of_four Big (a ∷ b ∷ []) = refl
-number_of_four Big (a ∷ b ∷ c ∷ []) = refl
-number_of_four Big (a ∷ b ∷ c ∷ d ∷ xs) = refl
+number_of_four Little xs = grind (arith, get_or-take)
+number_of_four Big xs = grind (arith, get_or-take)
 
 -- a number of four bytes in a piece of an image, by the place where it is in the image
 pub number_in : (order : Order) (place n at : ℕ) (b : List ℕ) → at + 4 ≤ n →

@@ -137,6 +137,16 @@ prints_whether knows rest rest' all ms any found a b c p e q here = record {
   any_is = rw (any_more p.printed.lines ms, p.any_is, here) refl;
 }
 
+-- where more is known, and with that these are the same lines
+abbrev pub printed_knowing : {knows knows' : List ℕ → Type 0} {rest all all' : List ℕ → List (List ℕ)} {a b : Sink} →
+    ForBytes knows' (λ bytes. knows bytes × (all bytes ≡ all' bytes)) → PrintedTo knows rest all a b →
+    PrintedTo knows' rest all' a b
+printed_knowing more p = record {
+  lines = p.lines;
+  right = λ bytes k. p.right bytes (more bytes k).0 ∙ (more bytes k).1;
+  took = p.took;
+}
+
 -- where more is known
 pub knowing : (T : Type 0) (knows knows' : List ℕ → Type 0) (all : List ℕ → List (List ℕ)) (a b : Sink)
     (r : Result T RunFault) → ForBytes knows' knows → PrintsLines knows all a b r → PrintsLines knows' all a b r

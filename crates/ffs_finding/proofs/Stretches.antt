@@ -89,8 +89,8 @@ module _ (word : List ℕ) (p : ℕ → Bool) (base end : ℕ) where
   all_lines g low high = before_more g end low high
 
   -- a stretch has a fragment at least
-  after_it : (f g : ℕ) → p f ≡ true → f < end → IsNext p false f end g → f < g
-  after_it f g here inside stops = elim (cases_lt f g) [
+  after_it : {f g : ℕ} → p f ≡ true → f < end → IsNext p false f end g → f < g
+  after_it {f} {g} here inside stops = elim (cases_lt f g) [
     | inl less ↦ less
     | inr other ↦
         let same : f ≡ g = omega (arith, other, stops.order) in
@@ -100,8 +100,8 @@ module _ (word : List ℕ) (p : ℕ → Bool) (base end : ℕ) where
   ]
 
   -- the next one doesn't begin where this one ends
-  begins_at : (f g h : ℕ) → IsNext p false f end g → IsNext p true g end h → h < end → p (h - 1) ≡ false
-  begins_at f g h stops found less = elim (cases_lt g h) [
+  begins_at : {f g h : ℕ} → IsNext p false f end g → IsNext p true g end h → h < end → p (h - 1) ≡ false
+  begins_at {f} {g} {h} stops found less = elim (cases_lt g h) [
     | inl more ↦ found.others (h - 1) (omega (arith, more)) (omega (arith, more))
     | inr other ↦
         let same : g ≡ h = omega (arith, other, found.order) in
@@ -135,17 +135,16 @@ module _ (word : List ℕ) (p : ℕ → Bool) (base end : ℕ) where
       }
 
   -- the line of a stretch from f on and below g, and then the next stretch, at h
-  one_line : (f g : ℕ) (any : Bool) (a b : Sink) → IsAt f any a b → f < end → IsNext p false f end g →
+  one_line : {f g : ℕ} {any : Bool} {a b : Sink} → IsAt f any a b → f < end → IsNext p false f end g →
       before g ≡ before f ++ (range_text word f (g - 1) ∷ [])
-  one_line f g any a b at inside stops =
-      let more : f < g = after_it f g (at.here inside) inside stops in
-      before_stretch f g at.low more stops.within (at.here inside) (at.begins inside)
-      (λ k low high. stops.others k low high) stops.at
+  one_line {f} {g} at inside stops =
+      before_stretch f g at.low (after_it (at.here inside) inside stops) stops.within (at.here inside)
+      (at.begins inside) (λ k low high. stops.others k low high) stops.at
 
-  pub at_next : (f g h : ℕ) (any : Bool) (a b c : Sink) → IsAt f any a b → f < end → IsNext p false f end g →
+  pub at_next : {f g h : ℕ} {any : Bool} {a b c : Sink} → IsAt f any a b → f < end → IsNext p false f end g →
       Took b c (range_text word f (g - 1)) → IsNext p true g end h → IsAt h true a c
-  at_next f g h any a b c at inside stops took found =
-      let line = one_line f g any a b at inside stops in
+  at_next {f} {g} {h} {any} {a} {b} {c} at inside stops took found =
+      let line = one_line at inside stops in
       let same : before h ≡ before g = before_none g h (omega (arith, at.low, stops.order)) found.order
       (λ k low high. found.others k low high) in
       let text : concat (before h) ≡ concat (before f) ++ range_text word f (g - 1) =
@@ -155,26 +154,26 @@ module _ (word : List ℕ) (p : ℕ → Bool) (base end : ℕ) where
         low = omega (arith, at.low, stops.order, found.order);
         high = found.within;
         here = found.at;
-        begins = λ less low. begins_at f g h stops found less;
+        begins = λ less low. begins_at stops found less;
         took = rw text (took_then a b c _ _ at.took took);
         any_is = sym (ap any_line (same ∙ line) ∙ any_more (before f) _
             ∙ ap (λ (t : Bool). any_line (before f) || t) (range_is_text word f (g - 1)) ∙ or_true (any_line (before f)));
       }
 
   -- the output failed in the line of a stretch
-  pub broke_at : (f g : ℕ) (any : Bool) (a b c : Sink) → IsAt f any a b → f < end → IsNext p false f end g →
+  pub broke_at : {f g : ℕ} {any : Bool} {a b c : Sink} → IsAt f any a b → f < end → IsNext p false f end g →
       BrokeOff b c (range_text word f (g - 1)) → BrokeOff a c (concat (stretch_lines word p base end))
-  broke_at f g any a b c at inside stops broke =
-      let line = one_line f g any a b at inside stops in
+  broke_at {f} {g} {any} {a} {b} {c} at inside stops broke =
       let text : concat (before g) ≡ concat (before f) ++ range_text word f (g - 1) =
-      ap concat line ∙ concat-append (before f) _ ∙ ap (λ (xs : List ℕ). concat (before f) ++ xs) (append-nil _) in
+      ap concat (one_line at inside stops) ∙ concat-append (before f) _
+      ∙ ap (λ (xs : List ℕ). concat (before f) ++ xs) (append-nil _) in
       rw (all_lines g (omega (arith, at.low, stops.order)) stops.within)
       (rw (concat-append (before g) (rest_from g), text)
       (broke_off_more a c _ (concat (rest_from g)) (broke_off_after a b c _ _ at.took broke)))
 
   -- no further stretch
-  pub at_end : (f : ℕ) (any : Bool) (a b : Sink) → IsAt f any a b → end ≤ f →
+  pub at_end : {f : ℕ} {any : Bool} {a b : Sink} → IsAt f any a b → end ≤ f →
       Took a b (concat (stretch_lines word p base end)) × (any ≡ any_line (stretch_lines word p base end))
-  at_end f any a b at past =
+  at_end {f} at past =
       let all : stretch_lines word p base end ≡ before f = all_before f (omega (arith, at.high)) in
       (rw all at.took, rw all at.any_is)

@@ -1,12 +1,11 @@
 -- The headline: what the program prints of an image, and its status, by what it is asked for. It is
--- `FindsCommand`, at the end, which says how a command ends by `FindEnds`. `Answers` is the same before the line
--- of a fault is printed.
+-- `FindsCommand`, below: `AnswersWith` says what is printed by an answer, and `EndsBy` how that ends.
 use Rattle.std.specs.Prelude.{◌≡◌, ◌⊎◌, ◌≤◌, ◌+◌, ◌*◌, ◌/◌, ℕ, Bool, true, false, ◌&&◌, List, [], if◌then◌else◌, Option}
 use Rattle.std.specs.Prelude.{Result, Ok, Err, IsOk, IfOk, ⊤}
-use Rattle.ffs_image.specs.Device.{Device, Faulted, ForContents}
+use Rattle.ffs_image.specs.Device.{Device, ForContents}
 use Rattle.ffs_volume.specs.{declared.{Layout.Layout, SuperFault.{SuperFault, TheVariants.CannotRead}}, Laws.Geometry.IsAcceptedLayout}
 use Rattle.ffs_volume.specs.{declared.constants.TheConstants.DEV_BSIZE, Disk.{Areas.inode_place, Superblock.Superblock}}
-use Rattle.ffs_volume.specs.{Disk.Outcome.{IsSuperSector, outcome, super_sector}, Messages.Kinds.{cannot_read, cannot_alloc}}
+use Rattle.ffs_volume.specs.{Disk.Outcome.{outcome, super_sector}, Messages.Kinds.{cannot_read, cannot_alloc}}
 use Rattle.ffs_volume.specs.{Messages.Texts.text_of, Report.{Opening.fault_line, Reads.{opening_reads, scan_reads}}}
 use Rattle.ffs_volume.specs.{Report.Reads.sweep_reads, Find.{Copies.copies_lines, InodeText.inode_listing}}
 use Rattle.ffs_volume.specs.Find.{Fields.wrong_fields, Lost.lost_lines, Owner.lines_of_fragment}
@@ -19,7 +18,7 @@ use Rattle.ffs_layout.specs.Super.{IsUnreadable, ReadsSuper}
 use Rattle.ffs_finding.specs.declared.request.Target.{Target, TheVariants.{Inode, Fields, Lost, Owner}}
 use Rattle.ffs_finding.specs.declared.request.Command.{Command, TheVariants.{Copies, InVolume}}
 use Rattle.ffs_finding.specs.declared.find.FindFault.{FindFault, TheVariants.{Refused, Failed, NoMemory}}
-use Rattle.ffs_finding.specs.{Outcome.{PrintedTo, PrintedSome, StoppedIn, any_line}, Fields.WithSuper}
+use Rattle.ffs_finding.specs.{Outcome.{Finds, PrintedTo, any_line}, Fields.WithSuper}
 use Rattle.ffs_finding.specs.{Copies.{ReadsCopies, window_bytes}}
 use Rattle.ffs_layout.specs.HasVolume.{HasVolume}
 
@@ -47,11 +46,6 @@ abbrev pub IsAcceptedIn : Command → (image : List ℕ) → Type 0
 IsAcceptedIn Copies image = ⊤
 IsAcceptedIn (InVolume target sector) image = IsOk (outcome image sector)
 
--- the superblock of the command's volume is refused by this fault, in the bytes that the image gives
-abbrev pub IsRefusedBy : Command → SuperFault → Device → Type 0
-IsRefusedBy Copies fault d = ⊥
-IsRefusedBy (InVolume target sector) fault d = ForContents d.contents (λ b. outcome b sector ≡ Err fault)
-
 -- the lines by an outcome: those of a target, and none where the superblock is refused
 abbrev pub lines_by : (Superblock → List (List ℕ)) → Result Superblock SuperFault → List (List ℕ)
 lines_by lines (Ok s) = lines s
@@ -72,19 +66,25 @@ pub record PrintedAll (are_defects : Bool) (knows : List ℕ → Type 0) (all : 
   pub printed : PrintedTo knows (λ b. []) all old new
   pub defect_is : defect ≡ (are_defects && any_line printed.lines)
 
--- the lines of a target were printed, and the answer is whether a defect was found
-abbrev pub TargetAnswers : Target → Option ℕ → Superblock → (old new : Moment) → Result Bool FindFault → Type 0
-TargetAnswers target sector s old new (Ok defect) =
-    (new.image ≡ old.image) × PrintedAll (finds_defects target) (WithSuper old.image sector s)
-    (λ b. target_lines target sector b s) old.out new.out defect
-TargetAnswers target sector s old new (Err (Refused fault)) = ⊥
-TargetAnswers target sector s old new (Err (Failed (Read fault))) =
-    Faulted old.image new.image fault.sector
-    × PrintedSome (WithSuper old.image sector s) (λ b. target_lines target sector b s) old.out new.out
-TargetAnswers target sector s old new (Err (Failed (Out fault))) =
-    (new.image ≡ old.image)
-    × StoppedIn (WithSuper old.image sector s) (λ b. target_lines target sector b s) old.out new.out
-TargetAnswers target sector s old new (Err NoMemory) = (new.image ≡ old.image) × (new.out ≡ old.out)
+-- how lines are printed, by an answer: all of them, which says whether one is a defect; whole ones where a read failed;
+-- a prefix of their bytes where the output failed; and none where the superblock or the memory is refused
+abbrev pub AnswersWith : (are_defects : Bool) → (knows : List ℕ → Type 0) → (lines : List ℕ → List (List ℕ))
+    → (old new : Moment) → Result Bool FindFault → Type 0
+AnswersWith are_defects knows lines old new (Ok defect) =
+    (new.image ≡ old.image) × PrintedAll are_defects knows lines old.out new.out defect
+AnswersWith are_defects knows lines old new (Err (Refused fault)) = new.out ≡ old.out
+AnswersWith are_defects knows lines old new (Err (Failed fault)) = Finds {T = Bool} knows lines old new (Err fault)
+AnswersWith are_defects knows lines old new (Err NoMemory) = (new.image ≡ old.image) × (new.out ≡ old.out)
+
+-- what is said beside by an answer: of an accepted superblock, of a fault of the superblock, of the sector of a failed
+-- read, and of refused memory
+abbrev pub GroundsOf : Result Bool FindFault → (accepted : Type 0) → (refused : SuperFault → Type 0)
+    → (unread : ℕ → Type 0) → (no_memory : Type 0) → Type 0
+GroundsOf (Ok defect) accepted refused unread no_memory = accepted
+GroundsOf (Err (Refused fault)) accepted refused unread no_memory = refused fault
+GroundsOf (Err (Failed (Read fault))) accepted refused unread no_memory = unread fault.sector
+GroundsOf (Err (Failed (Out fault))) accepted refused unread no_memory = ⊤
+GroundsOf (Err NoMemory) accepted refused unread no_memory = no_memory
 
 -- how often an image is read for a target after the superblock, in a volume of this layout: `lost` for phase 1 and
 -- the block of each group twice, `owner` for phase 1 and a sweep over all inodes
@@ -102,41 +102,6 @@ IsSectorFor Fields sector s at = at ≡ super_sector sector
 IsSectorFor Lost sector s at = ⊤
 IsSectorFor (Owner fragment) sector s at = ⊤
 
--- P holds of the sector of a failed read, where that is the answer
-abbrev pub FindFailsAt : Result Bool FindFault → (ℕ → Type 0) → Type 0
-FindFailsAt (Ok defect) P = ⊤
-FindFailsAt (Err (Refused fault)) P = ⊤
-FindFailsAt (Err (Failed (Read fault))) P = P fault.sector
-FindFailsAt (Err (Failed (Out fault))) P = ⊤
-FindFailsAt (Err NoMemory) P = ⊤
-
--- a target was looked for in a volume with this accepted superblock: what was printed, where a read failed, and
--- how often the image was read
-pub record FindsTarget (target : Target) (sector : Option ℕ) (s : Superblock) (old new : Moment)
-    (result : Result Bool FindFault) : Type 0 where
-  pub answer : TargetAnswers target sector s old new result
-  pub place : FindFailsAt result (IsSectorFor target sector s)
-  pub reads : new.reads ≤ old.reads + target_reads target s.layout
-
--- bytes of the memory were granted, or a request for them was refused, as the answer says
-abbrev pub IsGranted : (bytes : ℕ) → (before after : Account) → Result Bool FindFault → Type 0
-IsGranted bytes before after (Ok defect) = Granted before after bytes
-IsGranted bytes before after (Err (Refused fault)) = Granted before after bytes
-IsGranted bytes before after (Err (Failed fault)) = Granted before after bytes
-IsGranted bytes before after (Err NoMemory) = GaveUp before after bytes
-
--- nothing of the memory was asked for
-abbrev pub AsksNothing : (before after : Account) → Result Bool FindFault → Type 0
-AsksNothing before after result = (after ≡ before) × (result ≡ Err NoMemory → ⊥)
-
--- what is taken of the memory for a target, in a volume of this layout: nothing, or what the workspace of a check
--- holds
-abbrev pub TakesForTarget : Target → Layout → (before after : Account) → Result Bool FindFault → Type 0
-TakesForTarget (Inode number) v before after result = AsksNothing before after result
-TakesForTarget Fields v before after result = AsksNothing before after result
-TakesForTarget Lost v before after result = IsGranted (held_of v) before after result
-TakesForTarget (Owner fragment) v before after result = IsGranted (held_of v) before after result
-
 -- the line of a fault was printed, or the output failed in it, and the status is 8
 abbrev pub EndsByLine : (old new : Sink) → List ℕ → ℕ → Type 0
 EndsByLine old new text status = IsPrintedOrBrokeOff old new text × (status ≡ 8)
@@ -153,87 +118,18 @@ EndsBy old new (Err (Failed (Read fault))) status = EndsByLine old new (text_of 
 EndsBy old new (Err (Failed (Out fault))) status = EndsSilent old new 8 status
 EndsBy old new (Err NoMemory) status = EndsByLine old new (text_of cannot_alloc) status
 
--- where a fault says that the superblock of the command's volume can't be read, a read of it failed, or the image
--- ends before it does
-abbrev pub IsUnreadableFor : Command → (d d' : Device) → SuperFault → Type 0
-IsUnreadableFor Copies d d' fault = ⊥
-IsUnreadableFor (InVolume target sector) d d' fault =
-    (at : ℕ) → fault ≡ CannotRead at → IsUnreadable d d' sector at
+-- the superblock of the command's volume is refused: a read of it failed, or this is its fault in the image's bytes.
+-- Where the fault says that it can't be read, a read of it failed, or the image ends before it does
+abbrev pub IsRefusedBy : Command → (d d' : Device) → SuperFault → Type 0
+IsRefusedBy Copies d d' fault = ⊥
+IsRefusedBy (InVolume target sector) d d' fault =
+    ReadsSuper d d' sector (Err fault) × ((at : ℕ) → fault ≡ CannotRead at → IsUnreadable d d' sector at)
 
--- the superblock is refused: a read of it failed, or this is its fault in the image's bytes
-abbrev pub RefusesSuperblock : Command → (d d' : Device) → SuperFault → Type 0
-RefusesSuperblock Copies d d' fault = ⊥
-RefusesSuperblock (InVolume target sector) d d' fault = ReadsSuper d d' sector (Err fault)
-
--- what a command answers, before the line of a fault
-abbrev pub Answers : Command → (old new : Moment) → (before after : Account) → Result Bool FindFault → Type 0
-Answers command old new before after (Ok defect) =
-    (new.image ≡ old.image) × ForContents old.image.contents (IsAcceptedIn command)
-    × PrintedAll (command_finds_defects command) (IsContents old.image.contents) (command_lines command) old.out
-    new.out defect
-Answers command old new before after (Err (Refused fault)) =
-    (new.out ≡ old.out) × RefusesSuperblock command old.image new.image fault
-    × IsUnreadableFor command old.image new.image fault
-Answers command old new before after (Err (Failed (Read fault))) =
-    Faulted old.image new.image fault.sector
-    × PrintedSome (IsContents old.image.contents) (command_lines command) old.out new.out
-Answers command old new before after (Err (Failed (Out fault))) =
-    (new.image ≡ old.image) × StoppedIn (IsContents old.image.contents) (command_lines command) old.out new.out
-Answers command old new before after (Err NoMemory) =
-    (new.image ≡ old.image) × (new.out ≡ old.out) × RefusedOneMore before after
-
--- all lines were printed: the status is 1 where one of them is a defect, and else 0, of any image
-pub record AllFound (command : Command) (old new : Moment) (status : ℕ) : Type 0 where
-  pub no_read_failed : new.image ≡ old.image
-  pub accepted : ForContents old.image.contents (IsAcceptedIn command)
-  pub printed : PrintedTo (IsContents old.image.contents) (λ b. []) (command_lines command) old.out new.out
-  pub status_is : status ≡ status_of_answer (command_finds_defects command && any_line printed.lines)
-
--- the superblock is refused, and nothing but the line that says so was printed, perhaps a part of it
-pub record SuperRefused (command : Command) (old new : Moment) (status : ℕ) : Type 0 where
-  pub fault : SuperFault
-  pub no_read_failed : new.image ≡ old.image
-  pub refused : IsRefusedBy command fault old.image
-  pub unreadable : IsUnreadableFor command old.image new.image fault
-  pub line : IsPrintedOrBrokeOff old.out new.out (text_of (fault_line fault))
-  pub status_is : status ≡ 8
-
--- the sector at which a read for a command may fail, in these bytes: of its superblock, or of its target. Of `copies`
--- nothing is said
+-- the sector at which a read for a command may fail, in these bytes: after its superblock that of its target. Of
+-- `copies` nothing is said
 abbrev pub IsReadFor : Command → (image : List ℕ) → (at : ℕ) → Type 0
 IsReadFor Copies image at = ⊤
-IsReadFor (InVolume target sector) image at =
-    IsSuperSector image sector at ⊎ IfOk (outcome image sector) (λ s. IsSectorFor target sector s at)
-
--- a read failed: whole lines were printed, and then the line that says so, perhaps a part of that
-pub record CutByRead (command : Command) (old new : Moment) (status : ℕ) : Type 0 where
-  pub sector : ℕ
-  pub faulted : Faulted old.image new.image sector
-  pub place : ForContents old.image.contents (λ b. IsReadFor command b sector)
-  pub between : Sink
-  pub printed : PrintedSome (IsContents old.image.contents) (command_lines command) old.out between
-  pub line : IsPrintedOrBrokeOff between new.out (text_of (cannot_read sector))
-  pub status_is : status ≡ 8
-
--- the output failed among the lines, and nothing was printed after that
-pub record BrokeOffAmong (command : Command) (old new : Moment) (status : ℕ) : Type 0 where
-  pub no_read_failed : new.image ≡ old.image
-  pub stopped : StoppedIn (IsContents old.image.contents) (command_lines command) old.out new.out
-  pub status_is : status ≡ 8
-
--- the memory was refused before anything was printed, and the line that says so was printed, perhaps a
--- part of it
-pub record MemoryLacked (old new : Moment) (before after : Account) (status : ℕ) : Type 0 where
-  pub no_read_failed : new.image ≡ old.image
-  pub refused : RefusedOneMore before after
-  pub line : IsPrintedOrBrokeOff old.out new.out (text_of cannot_alloc)
-  pub status_is : status ≡ 8
-
--- how a command ends on an image
-abbrev pub FindEnds : Command → (old new : Moment) → (before after : Account) → ℕ → Type 0
-FindEnds command old new before after status =
-    AllFound command old new status ⊎ (SuperRefused command old new status ⊎ (CutByRead command old new status
-    ⊎ (BrokeOffAmong command old new status ⊎ MemoryLacked old new before after status)))
+IsReadFor (InVolume target sector) image at = IfOk (outcome image sector) (λ s. IsSectorFor target sector s at)
 
 -- what a command takes of the memory: `copies` a window, `lost` and `owner` the workspace of a check
 abbrev pub TakesMemory : Command → Device → (before after : Account) → Type 0
@@ -257,17 +153,50 @@ ReadsForCommand Copies d before after = ReadsCopies d before after
 ReadsForCommand (InVolume target sector) d before after =
     (after ≤ before + opening_reads) ⊎ ReadsVolume target sector d before after
 
--- a command was carried out; the line of a fault is still to come
+-- what a command asks for was found; the line of a fault is still to come
 pub record AnswersCommand (command : Command) (old new : Moment) (before after : Account)
     (result : Result Bool FindFault) : Type 0 where
-  pub answers : Answers command old new before after result
-  pub place : FindFailsAt result (λ at. ForContents old.image.contents (λ b. IsReadFor command b at))
+  pub answer : AnswersWith (command_finds_defects command) (IsContents old.image.contents) (command_lines command) old
+      new result
+  pub grounds : GroundsOf result (ForContents old.image.contents (IsAcceptedIn command))
+      (IsRefusedBy command old.image new.image)
+      (λ at. ForContents old.image.contents (λ b. IsReadFor command b at)) (RefusedOneMore before after)
   pub memory : TakesMemory command old.image before after
   pub reads : ReadsForCommand command old.image old.reads new.reads
 
--- a command was carried out: what was printed and the status, what was taken of the memory,
--- and how often the image was read
+-- what a command asks for was found: an answer, with what was printed for it, what was taken of the memory, and how
+-- often the image was read; and then, by the answer, the line of a fault and the status
 pub record FindsCommand (command : Command) (old new : Moment) (before after : Account) (status : ℕ) : Type 0 where
-  pub ends : FindEnds command old new before after status
-  pub memory : TakesMemory command old.image before after
-  pub reads : ReadsForCommand command old.image old.reads new.reads
+  pub answer : Result Bool FindFault
+  pub before_line : Sink
+  pub answers : AnswersCommand command old (record new { out = before_line }) before after answer
+  pub ends : EndsBy before_line new.out answer status
+
+-- ---- of the parts of `find_in`: a target, once its superblock is accepted
+-- a target was found in a volume with this accepted superblock: what was printed, where a read failed, and how often
+-- the image was read
+pub record FindsTarget (target : Target) (sector : Option ℕ) (s : Superblock) (old new : Moment)
+    (result : Result Bool FindFault) : Type 0 where
+  pub answer : AnswersWith (finds_defects target) (WithSuper old.image sector s) (λ b. target_lines target sector b s)
+      old new result
+  pub grounds : GroundsOf result ⊤ (λ fault. ⊥) (IsSectorFor target sector s) ⊤
+  pub reads : new.reads ≤ old.reads + target_reads target s.layout
+
+-- bytes of the memory were granted, or a request for them was refused, as the answer says
+abbrev pub IsGranted : (bytes : ℕ) → (before after : Account) → Result Bool FindFault → Type 0
+IsGranted bytes before after (Ok defect) = Granted before after bytes
+IsGranted bytes before after (Err (Refused fault)) = Granted before after bytes
+IsGranted bytes before after (Err (Failed fault)) = Granted before after bytes
+IsGranted bytes before after (Err NoMemory) = GaveUp before after bytes
+
+-- nothing of the memory was asked for
+abbrev pub AsksNothing : (before after : Account) → Result Bool FindFault → Type 0
+AsksNothing before after result = (after ≡ before) × (result ≡ Err NoMemory → ⊥)
+
+-- what is taken of the memory for a target, in a volume of this layout: nothing, or what the workspace of a check
+-- holds
+abbrev pub TakesForTarget : Target → Layout → (before after : Account) → Result Bool FindFault → Type 0
+TakesForTarget (Inode number) v before after result = AsksNothing before after result
+TakesForTarget Fields v before after result = AsksNothing before after result
+TakesForTarget Lost v before after result = IsGranted (held_of v) before after result
+TakesForTarget (Owner fragment) v before after result = IsGranted (held_of v) before after result

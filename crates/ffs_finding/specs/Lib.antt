@@ -1,6 +1,6 @@
 -- What the contracts of `ffs_find` cite, in the order to read it: each file rests on those before it. Which lines a
 -- command prints of an image's bytes is in the book (`Find` of ffs_volume). Who only wants to know what the program
--- promises begins with FindsCommand, at the end of `Headline`. The public functions, and what their clauses are:
+-- promises begins with FindsCommand of `Headline`. The public functions, and what their clauses are:
 --
 --   run                    RunsProgramFlushed of ffs_check, over `ffs_find` (`Run`), and so IsFoundIn
 --   find_in                FindsCommand (`Headline`)

@@ -1,10 +1,39 @@
-//! The map of fragments in a group block (fs(5)).
-ghost use Rattle.std.specs.Prelude.{◌≡◌, ◌+◌, ◌/◌, ◌<◌, length};
-ghost use Rattle.ffs_volume.specs.Groups.Records.{bit_at};
-ghost use Rattle.ffs_finding.specs.GroupMaps.{IsMapPlace};
+//! A group block, and the map of fragments in it (fs(5)).
+ghost use Rattle.std.specs.Prelude.{◌≡◌, ◌+◌, ◌*◌, ◌/◌, ◌<◌, ◌≤◌, length};
+ghost use Rattle.ffs_volume.specs.{Disk.Areas.group_place, Groups.Records.bit_at};
+ghost use Rattle.ffs_image.specs.Reads.{ReadsAtMostOnce};
+ghost use Rattle.ffs_walk.specs.Windows.{FillsWindow, image_with};
+ghost use Rattle.ffs_finding.specs.{GroupMaps.IsMapPlace, LostMaps.IsBlockWindow};
 
+use ffs_image::{Image, ImageFault};
 use ffs_layout::{Geometry, Group};
 use ffs_volume::constants::CG_MAGIC;
+use ffs_walk::Window;
+
+/// Reads the block of a group, unless the window holds just that.
+///
+/// # Errors
+/// A read of the image that failed. The window holds nothing then.
+#[tactic(auto, using(ffs_volume::proofs::AreaLaws::group_block_inside))]
+pub(crate) fn fill_group<I: Image>(
+    geometry: &Geometry,
+    image: &mut I,
+    window: &mut Window,
+    group: u32,
+) -> Result<(), ImageFault>
+    requires group { group < geometry.now.layout.ncg }
+    requires volume { geometry.now.layout.size * geometry.now.layout.fsize
+        ≤ (I.device image.old).size }
+    requires window { IsBlockWindow geometry.now.layout (I.device image.old) window.old }
+    ensures fills { FillsWindow (group_place geometry.now.layout group) geometry.now.layout.cgsize
+        (image_with I.Image image.old window.old) (image_with I.Image image.new window.new)
+        result }
+    ensures asks { ReadsAtMostOnce I.was_read (group_place geometry.now.layout group)
+        geometry.now.layout.cgsize image.old image.new }
+{
+    let place = geometry.group_place(group);
+    window.fill(image, place, geometry.layout.cgsize as usize)
+}
 
 /// Where the map of fragments begins in a group block, in bytes, if it has one: the block has its
 /// magic number, and its maps end within it.

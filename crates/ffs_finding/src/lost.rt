@@ -10,7 +10,7 @@ ghost use Rattle.ffs_finding.specs.LostMaps.{CanSayGroup, FindsWrong, IsBlockWin
 ghost use Rattle.ffs_finding.specs.LostMaps.{is_wrong_at, lines_of_group, no_map_lines};
 ghost use Rattle.ffs_volume.specs.Find.Lost.{lost_lines, range_text, stretch_lines};
 
-use crate::group_map::{is_marked_free, map_place};
+use crate::group_map::{fill_group, is_marked_free, map_place};
 use ffs_groups::{group_fragments, same_fragment_map};
 use ffs_image::Image;
 use ffs_layout::Geometry;
@@ -180,8 +180,7 @@ fn find_wrong<I: Image, W: Output>(
 {
     let mut any = false;
     for group in 0..geometry.layout.ncg {
-        let place = geometry.group_place(group);
-        window.fill(image, place, geometry.layout.cgsize as usize)?;
+        fill_group(geometry, image, window, group)?;
         let found = print_group(out, geometry, used, group, window.bytes(), how)?;
         any |= found;
     }

@@ -30,7 +30,7 @@ returns-in_err-print_copy-in-Ok g c =
     c.from_residual-in_err-print_copy-in-Ok.ensures.1 in
     let e = c.in_ok-found.ensures.answer in
     let read = c.has_magic.ensures.reads in
-    let s = same_super (g.I.Image.device c.args.image.now) _ _ _ _ e.read c.in-Ok.ensures.answer in
+    let s = same_super e.read c.in-Ok.ensures.answer in
     let more = one_read (g.I.Image.device c.args.image.now) c.args.sector
     (λ b k. sym c.if-not-found.false ∙ e.answer b k) in
     rw (p.1, p.2) (record {
@@ -39,13 +39,7 @@ returns-in_err-print_copy-in-Ok g c =
         text = stops_all (λ b k. ap (copy_lines_of c.args.sector) (sym (s.1 b k)))
             (one_broken c.in_err-print_copy-in-Ok.ensures);
       };
-      window = record {
-        at = search rules;
-        room = e.window.room;
-        holds = holds_on (g.I.Image.device c.args.image.now) (g.I.Image.device c.has_magic.new.image)
-            (g.I.Image.device c.read_super.new.image) c.has_magic.new.window e.read
-            (ap (λ x. x.contents) s.0) e.window.holds;
-      };
+      window = record { at = search rules; room = e.window.room; holds = holds_on e.read s.0 e.window.holds };
       counted = λ b k. let reads = more b k in omega (arith, read.counted, reads, c.in-Ok.ensures.once refl);
       again = λ at b k. let reads = more b k in omega (arith, read.again at, reads, c.in-Ok.ensures.once refl);
       any = omega (arith, read.counted, c.in-Ok.ensures.once refl);
@@ -55,7 +49,7 @@ pub returns-in_ok-print_copy-in-Ok : goal.returns-in_ok-print_copy-in-Ok
 returns-in_ok-print_copy-in-Ok g c =
     let e = c.in_ok-found.ensures.answer in
     let read = c.has_magic.ensures.reads in
-    let s = same_super (g.I.Image.device c.args.image.now) _ _ _ _ e.read c.in-Ok.ensures.answer in
+    let s = same_super e.read c.in-Ok.ensures.answer in
     let more = one_read (g.I.Image.device c.args.image.now) c.args.sector
     (λ b k. sym c.if-not-found.false ∙ e.answer b k) in
     record {
@@ -64,13 +58,7 @@ returns-in_ok-print_copy-in-Ok g c =
         text = prints_all (λ b k. ap (copy_lines_of c.args.sector) (sym (s.1 b k)))
             (one c.in_ok-print_copy-in-Ok.ensures);
       };
-      window = record {
-        at = e.window.at;
-        room = e.window.room;
-        holds = holds_on (g.I.Image.device c.args.image.now) (g.I.Image.device c.has_magic.new.image)
-            (g.I.Image.device c.read_super.new.image) c.has_magic.new.window e.read
-            (ap (λ x. x.contents) s.0) e.window.holds;
-      };
+      window = record { at = e.window.at; room = e.window.room; holds = holds_on e.read s.0 e.window.holds };
       counted = λ b k. let reads = more b k in omega (arith, read.counted, reads, c.in-Ok.ensures.once refl);
       again = λ at b k. let reads = more b k in omega (arith, read.again at, reads, c.in-Ok.ensures.once refl);
       any = omega (arith, read.counted, c.in-Ok.ensures.once refl);

@@ -17,8 +17,7 @@ super_read start sector b bytes at long read =
 pub returns-then-size-start-clause-prints : goal.returns-then-size-start-clause-prints
 returns-then-size-start-clause-prints g c =
     let d = g.I.Image.device c.args.image.now in
-    let at : c.from-start.result ≡ super_sector c.args.sector =
-    c.from-start.ensures ∙ c.unwrap_or.ensures ∙ default_sector c.args.sector in
+    let at = c.from-start.ensures ∙ c.unwrap_or.ensures ∙ default_sector c.args.sector in
     record {
       found = record {
         image = refl;
@@ -37,8 +36,7 @@ returns-in_err-read_at-clause-prints g c = grind (arith, err_from_is_err_and, re
 
 pub returns-in_err-of_layout-clause-prints : goal.returns-in_err-of_layout-clause-prints
 returns-in_err-of_layout-clause-prints g c =
-    let at : c.from-start.result ≡ super_sector c.args.sector =
-    c.from-start.ensures ∙ c.unwrap_or.ensures ∙ default_sector c.args.sector in
+    let at = c.from-start.ensures ∙ c.unwrap_or.ensures ∙ default_sector c.args.sector in
     let s = superblock_in c.args.superblock.now in
     let p = err_from_is_err_and c.from_residual-in_err-of_layout.result c.from_residual-in_err-of_layout.ensures.1 in
     rw (p.1, p.2) (record {
@@ -58,8 +56,7 @@ returns-in_err-of_layout-clause-prints g c =
 
 pub returns-in_err-of_totals-clause-prints : goal.returns-in_err-of_totals-clause-prints
 returns-in_err-of_totals-clause-prints g c =
-    let at : c.from-start.result ≡ super_sector c.args.sector =
-    c.from-start.ensures ∙ c.unwrap_or.ensures ∙ default_sector c.args.sector in
+    let at = c.from-start.ensures ∙ c.unwrap_or.ensures ∙ default_sector c.args.sector in
     let s = superblock_in c.args.superblock.now in
     let p = err_from_is_err_and c.from_residual-in_err-of_totals.result c.from_residual-in_err-of_totals.ensures.1 in
     let xs = wrong_lines (c.from-start.result * 512) c.layout_fields.result in
@@ -84,8 +81,7 @@ returns-in_err-of_totals-clause-prints g c =
 
 pub returns-clause-prints : goal.returns-clause-prints
 returns-clause-prints g c =
-    let at : c.from-start.result ≡ super_sector c.args.sector =
-    c.from-start.ensures ∙ c.unwrap_or.ensures ∙ default_sector c.args.sector in
+    let at = c.from-start.ensures ∙ c.unwrap_or.ensures ∙ default_sector c.args.sector in
     let s = superblock_in c.args.superblock.now in
     let xs = wrong_lines (c.from-start.result * 512) c.layout_fields.result in
     let ys = wrong_lines (c.from-start.result * 512) c.total_fields.result in

@@ -1,21 +1,18 @@
-use Rattle.std.proofs.{Common.{Err, arith}, lemmas.Result.err_from_is_err_and}
+use Rattle.std.proofs.{Common.{arith}, lemmas.Result.err_from_is_err_and}
 use Rattle.ffs_layout.specs.Super.{superblock_in}
 use Rattle.ffs_check.specs.Moment.{moment}
-use Rattle.ffs_finding.{specs.declared.request.Target.TheVariants.Lost, proofs.ClaimTargets.all_answer}
-use Rattle.ffs_finding.proofs.{ClaimTargets.{refused_answer}, Targets.anywhere}
+use Rattle.ffs_finding.specs.declared.request.Target.TheVariants.{Lost}
+use Rattle.ffs_finding.proofs.{ClaimTargets.{claimed_knows, unclaimed_found}, Targets.all_knowing}
 use Rattle.ffs_finding.proofs.find.claim_and_find_lost.Goals as goal
 
 pub returns-in_err-workspace-clause-answer : goal.returns-in_err-workspace-clause-answer
 returns-in_err-workspace-clause-answer g c = λ sector.
     let p = err_from_is_err_and c.from_residual.result c.from_residual.ensures.1 in
     let made = c.in_err-workspace.ensures in
-    rw (p.1, p.2) (record {
-      answer = refused_answer Lost sector (superblock_in c.args.superblock.now)
-          (moment g.I.Image g.W.Output c.args.image.now c.args.out.now) _
-          (g.I.Image.reads c.claimed_workspace.new.image) _ _ c.in_err-workspace.field-0.0 made.takes;
-      place = anywhere (Err c.in_err-workspace.field-0.0);
-      reads = omega (arith, made.reads);
-    })
+    rw (p.1, p.2) (unclaimed_found Lost sector (superblock_in c.args.superblock.now)
+    (moment g.I.Image g.W.Output c.args.image.now c.args.out.now) _
+    (g.I.Image.reads c.claimed_workspace.new.image) _ _ c.in_err-workspace.field-0.0 (λ at. tt)
+    (omega (arith, made.reads)) made.takes)
 
 pub returns-in_err-workspace-clause-memory : goal.returns-in_err-workspace-clause-memory
 returns-in_err-workspace-clause-memory g c = grind arith
@@ -33,12 +30,12 @@ returns-clause-answer g c = λ sector.
     record {
       answer = (
         found.found.image,
-        all_answer Lost sector (superblock_in c.args.superblock.now)
-            (moment g.I.Image g.W.Output c.args.image.now c.args.out.now)
-            (moment g.I.Image g.W.Output c.find_lost.new.image c.find_lost.new.out) c.in_ok-workspace.workspace
-            made.takes.3 _ found.found.text found.any,
+        all_knowing
+            (claimed_knows Lost sector (superblock_in c.args.superblock.now)
+            (moment g.I.Image g.W.Output c.args.image.now c.args.out.now) c.in_ok-workspace.workspace made.takes.3)
+            (record { printed = found.found.text; defect_is = found.any }),
       );
-      place = tt;
+      grounds = tt;
       reads = omega (arith, made.reads, c.find_lost.ensures.reads);
     }
 

@@ -1,27 +1,32 @@
-use Rattle.std.proofs.{Common.{Err, arith}, lemmas.Result.err_from_is_err_and}
+use Rattle.std.proofs.{Common.{arith}, lemmas.Result.err_from_is_err_and}
 use Rattle.ffs_layout.specs.Super.{superblock_in}
 use Rattle.ffs_check.specs.Moment.{moment}
 use Rattle.ffs_finding.{specs.declared.request.Target.TheVariants.Owner}
-use Rattle.ffs_finding.proofs.{ClaimTargets.{refused_answer}, Targets.anywhere}
+use Rattle.ffs_finding.proofs.ClaimTargets.{claimed_fails, unclaimed_found}
 use Rattle.ffs_finding.proofs.find.claim_and_find_owner.Goals as goal
 
 pub returns-in_err-workspace-clause-answer : goal.returns-in_err-workspace-clause-answer
 returns-in_err-workspace-clause-answer g c = λ sector.
     let p = err_from_is_err_and c.from_residual.result c.from_residual.ensures.1 in
     let made = c.in_err-workspace.ensures in
-    rw (p.1, p.2) (record {
-      answer = refused_answer (Owner c.args.fragment) sector (superblock_in c.args.superblock.now)
-          (moment g.I.Image g.W.Output c.args.image.now c.args.out.now) _
-          (g.I.Image.reads c.claimed_workspace.new.image) _ _ c.in_err-workspace.field-0.0 made.takes;
-      place = anywhere (Err c.in_err-workspace.field-0.0);
-      reads = omega (arith, made.reads);
-    })
+    rw (p.1, p.2) (unclaimed_found (Owner c.args.fragment) sector (superblock_in c.args.superblock.now)
+    (moment g.I.Image g.W.Output c.args.image.now c.args.out.now) _
+    (g.I.Image.reads c.claimed_workspace.new.image) _ _ c.in_err-workspace.field-0.0 (λ at. tt)
+    (omega (arith, made.reads)) made.takes)
 
 pub returns-in_err-workspace-clause-memory : goal.returns-in_err-workspace-clause-memory
 returns-in_err-workspace-clause-memory g c = grind arith
 
 pub returns-in_err-find_owner-clause-answer : goal.returns-in_err-find_owner-clause-answer
-returns-in_err-find_owner-clause-answer g c = grind (arith, anywhere)
+returns-in_err-find_owner-clause-answer g c = λ sector.
+    let p = err_from_is_err_and c.from_residual-in_err-find_owner.result
+    c.from_residual-in_err-find_owner.ensures.1 in
+    let made = c.in_ok-workspace.ensures in
+    let found = rw (made.takes.0) at c.in_err-find_owner.ensures.prints in
+    rw (p.1, p.2) (claimed_fails (Owner c.args.fragment) sector (superblock_in c.args.superblock.now)
+    (moment g.I.Image g.W.Output c.args.image.now c.args.out.now) c.in_ok-workspace.workspace _
+    (moment g.I.Image g.W.Output c.find_owner.new.image c.find_owner.new.out) c.in_err-find_owner.field-0.0
+    (λ at. tt) (omega (arith, made.reads, c.find_owner.ensures.reads)) made.takes.3 found)
 
 pub returns-in_err-find_owner-clause-memory : goal.returns-in_err-find_owner-clause-memory
 returns-in_err-find_owner-clause-memory g c = grind arith

@@ -5,7 +5,7 @@ returns-in_ok-find_wrong_fields-in-Fields-clause-answer g c =
     let found = c.in_ok-find_wrong_fields-in-Fields.ensures.prints in
     rw (c.in-Fields.is) (record {
       answer = (found.found.image, record { printed = found.found.text; defect_is = found.any });
-      place = tt;
+      grounds = tt;
       reads = c.in_ok-find_wrong_fields-in-Fields.ensures.reads;
     })
 

@@ -9,7 +9,7 @@ returns-in-Ok g c =
     let d = g.I.Image.device c.args.image.now in
     let super = c.in-Ok.superblock in
     let opened = c.in-Ok.ensures in
-    let read = same_super d d _ c.args.sector (superblock_in super) refl opened.answer in
+    let read = same_super refl opened.answer in
     answered c.args.target c.args.sector (superblock_in super) d _ _ _
     (moment g.I.Image g.W.Output c.find_in_accepted.new.image c.find_in_accepted.new.out) _ _ _
     (λ b k. sym (read.1 b k)) super.geometry.sound opened.inside_or_unreadable opened.reads

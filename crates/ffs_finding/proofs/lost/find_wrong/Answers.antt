@@ -1,22 +1,10 @@
-use Rattle.std.proofs.{Common.{◌∙◌, ◌≡◌, ◌+◌, ℕ, List, [], ◌++◌, Option, ap, arith, refl, sym}, lemmas.Result.err_from_is_err_and}
-use Rattle.ffs_image.specs.Device.{ForContents}
-use Rattle.ffs_volume.specs.{declared.Layout.Layout, Disk.{Areas.group_place, Numbers.piece}}
-use Rattle.ffs_volume.specs.Groups.Records.{group_block}
-use Rattle.ffs_walk.specs.{Windows.held_bytes, declared.window.Window.Window}
+use Rattle.std.proofs.{Common.{◌∙◌, ◌+◌, ℕ, List, [], ◌++◌, ap, arith, refl, sym}, lemmas.Result.err_from_is_err_and}
 use Rattle.ffs_maps.specs.Bits.{bits_of}
 use Rattle.ffs_groups.specs.Free.{free_in}
 use Rattle.ffs_report.proofs.Sinks.{took_nil}
-use Rattle.ffs_image.specs.Known.{ForBytes, IsContents}
-use Rattle.ffs_volume.proofs.AreaLaws.{group_block_inside}
 use Rattle.ffs_finding.proofs.{Printing.{prints_whether, stops}, LostGroups.{from_group, groups_begin, groups_end}}
 use Rattle.ffs_finding.proofs.LostGroups.{groups_next}
 use Rattle.ffs_finding.proofs.lost.find_wrong.Goals as goal
-
--- the window holds the block of a group
-held : (v : Layout) (contents : Option (List ℕ)) (w : Window) (xs : List ℕ) (place c : ℕ) → xs ≡ held_bytes w →
-    ForContents contents (λ b. held_bytes w ≡ piece place v.cgsize b) → place ≡ group_place v c →
-    ForBytes (IsContents contents) (λ b. xs ≡ group_block v b c)
-held v contents w xs place c is read at b k = is ∙ read b k ∙ ap (λ (n : ℕ). piece n v.cgsize b) at
 
 pub loop-group-init : goal.loop-group-init
 loop-group-init g c =
@@ -35,24 +23,20 @@ loop-group-init g c =
       };
     }
 
-pub fill-requires : goal.fill-requires
-fill-requires g c = grind (arith, group_block_inside)
-
 pub returns-in_err-found-clause-prints : goal.returns-in_err-found-clause-prints
 returns-in_err-found-clause-prints g c =
     let v = c.args.geometry.now.layout in
     let free = free_in (bits_of c.args.used.now) v.size in
     let inv = c.loop-group.invariant in
     let n = c.loop-group.group in
-    let fill = rw (inv.device) at c.in_ok-fill.ensures.fills in
+    let fill = rw (inv.device) at c.in_ok-fill_group.ensures.fills in
     let p = err_from_is_err_and c.from_residual-in_err-found.result c.from_residual-in_err-found.ensures.1 in
     rw (p.1, p.2) (record {
       lines = record {
         found = record {
           image = fill.read;
           text = stops _ _ (from_group c.args.how v free (n + 1)) _ _ _ _ _ inv.printed.printed
-              (λ b k. groups_next c.args.how v free b _ n c.loop-group-test.true
-              (held v _ c.fill.new.self _ _ n c.bytes.ensures fill.bytes c.group_place-place.ensures b k))
+              (λ b k. groups_next c.args.how v free b _ n c.loop-group-test.true (c.bytes.ensures ∙ fill.bytes b k))
               c.in_err-found.ensures.text;
         };
         any = tt;
@@ -66,14 +50,13 @@ loop-group-preserved g c =
     let free = free_in (bits_of c.args.used.now) v.size in
     let inv = c.loop-group.invariant in
     let n = c.loop-group.group in
-    let fill = rw (inv.device) at c.in_ok-fill.ensures.fills in
+    let fill = rw (inv.device) at c.in_ok-fill_group.ensures.fills in
     record {
       device = fill.read;
       window = record { room = fill.room ∙ inv.window.room; holds = rw (fill.read) at fill.holds };
       reads = omega (arith, inv.reads, fill.counted);
       printed = prints_whether _ _ (from_group c.args.how v free (n + 1)) _ _ _ _ _ _ _ inv.printed
-          (λ b k. groups_next c.args.how v free b _ n c.loop-group-test.true
-          (held v _ c.fill.new.self _ _ n c.bytes.ensures fill.bytes c.group_place-place.ensures b k))
+          (λ b k. groups_next c.args.how v free b _ n c.loop-group-test.true (c.bytes.ensures ∙ fill.bytes b k))
           c.in_ok-found.ensures.text c.in_ok-found.ensures.any;
     }
 

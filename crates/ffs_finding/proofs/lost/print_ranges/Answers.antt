@@ -1,6 +1,6 @@
 use Rattle.std.proofs.Common.{arith}
 use Rattle.std.proofs.lemmas.Result.{err_from_is_err_and}
-use Rattle.ffs_finding.{specs.LostMaps.{is_wrong_at, word_of}, proofs.Stretches.{at_begin, at_end, at_next, broke_at}}
+use Rattle.ffs_finding.proofs.Stretches.{at_begin, at_end, at_next, broke_at}
 use Rattle.ffs_finding.proofs.lost.print_ranges.Goals as goal
 
 pub loop-first-init : goal.loop-first-init
@@ -8,26 +8,18 @@ loop-first-init g c = search (arith, at_begin)
 
 pub returns-in_err-print_range : goal.returns-in_err-print_range
 returns-in_err-print_range g c =
-    let m = c.args.map.now in
     let p = err_from_is_err_and c.from_residual.result c.from_residual.ensures.1 in
     rw (p.1) (record {
-      text = broke_at (word_of c.args.how) (is_wrong_at c.args.how m) m.base m.end c.loop-first.first
-          c.first_with-end.result
-          c.loop-first.any _ _ _ c.loop-first.invariant c.loop-first-test.true c.first_with-end.ensures
+      text = broke_at _ _ _ _ c.loop-first.invariant c.loop-first-test.true c.first_with-end.ensures
           (rw c.word.ensures at c.in_err-print_range.ensures);
       any = tt;
     })
 
 pub loop-first-preserved : goal.loop-first-preserved
-loop-first-preserved g c =
-    let m = c.args.map.now in
-    at_next (word_of c.args.how) (is_wrong_at c.args.how m) m.base m.end c.loop-first.first c.first_with-end.result
-    c.first_with-first-in-loop-first.result c.loop-first.any _ _ _ c.loop-first.invariant c.loop-first-test.true
-    c.first_with-end.ensures (rw c.word.ensures at c.in_ok-print_range.ensures) c.first_with-first-in-loop-first.ensures
+loop-first-preserved g c = at_next _ _ _ _ c.loop-first.invariant c.loop-first-test.true c.first_with-end.ensures
+    (rw c.word.ensures at c.in_ok-print_range.ensures) c.first_with-first-in-loop-first.ensures
 
 pub returns : goal.returns
 returns g c =
-    let m = c.args.map.now in
-    let p = at_end (word_of c.args.how) (is_wrong_at c.args.how m) m.base m.end c.loop-first.first c.loop-first.any
-    _ _ c.loop-first.invariant c.loop-first-test.false in
+    let p = at_end _ _ _ _ c.loop-first.invariant c.loop-first-test.false in
     record { text = p.0; any = p.1 }
