@@ -153,7 +153,7 @@ ReadsForCommand Copies d before after = ReadsCopies d before after
 ReadsForCommand (InVolume target sector) d before after =
     (after ≤ before + opening_reads) ⊎ ReadsVolume target sector d before after
 
--- what a command asks for was found; the line of a fault is still to come
+-- a command was carried out; the line of a fault is still to come
 pub record AnswersCommand (command : Command) (old new : Moment) (before after : Account)
     (result : Result Bool FindFault) : Type 0 where
   pub answer : AnswersWith (command_finds_defects command) (IsContents old.image.contents) (command_lines command) old
@@ -164,8 +164,8 @@ pub record AnswersCommand (command : Command) (old new : Moment) (before after :
   pub memory : TakesMemory command old.image before after
   pub reads : ReadsForCommand command old.image old.reads new.reads
 
--- what a command asks for was found: an answer, with what was printed for it, what was taken of the memory, and how
--- often the image was read; and then, by the answer, the line of a fault and the status
+-- a command was carried out: an answer, with what was printed for it, what was taken of the memory, and how often
+-- the image was read; and then, by the answer, the line of a fault and the status
 pub record FindsCommand (command : Command) (old new : Moment) (before after : Account) (status : ℕ) : Type 0 where
   pub answer : Result Bool FindFault
   pub before_line : Sink
@@ -173,8 +173,8 @@ pub record FindsCommand (command : Command) (old new : Moment) (before after : A
   pub ends : EndsBy before_line new.out answer status
 
 -- ---- of the parts of `find_in`: a target, once its superblock is accepted
--- a target was found in a volume with this accepted superblock: what was printed, where a read failed, and how often
--- the image was read
+-- a target was looked for in a volume with this accepted superblock: what was printed, where a read failed, and
+-- how often the image was read
 pub record FindsTarget (target : Target) (sector : Option ℕ) (s : Superblock) (old new : Moment)
     (result : Result Bool FindFault) : Type 0 where
   pub answer : AnswersWith (finds_defects target) (WithSuper old.image sector s) (λ b. target_lines target sector b s)
