@@ -1,7 +1,7 @@
 -- How phase 1b goes from inode to inode.
 use Rattle.std.proofs.Common.{◌≡◌, ◌≢◌, ℕ, zero, suc, ◌+◌, ◌-◌, ◌<◌, ◌≤◌}
 use Rattle.std.proofs.Common.{Bool, true, false, not, ◌&&◌, ◌==◌, List, [], ◌∷◌}
-use Rattle.std.proofs.Common.{◌++◌, map, slice_index, slice_set, arith, refl, ap, ◌∙◌, sym, ne_eqb, Result}
+use Rattle.std.proofs.Common.{◌++◌, length, map, slice_index, slice_set, arith, refl, ap, ◌∙◌, sym, ne_eqb, Result}
 use Rattle.std.proofs.lemmas.{Bool.{and_from, and_parts, Decides.nat_tests}, List.Folds.list_all-append}
 use Rattle.std.specs.List.{range_with_len, list_any, list_all}
 use Rattle.ffs_volume.proofs.{CutLaws.cut_is, OwnerLaws.before_next, Potentials.cond_holds, ReplayLaws.replay_is_runs}
@@ -11,7 +11,8 @@ use Rattle.ffs_volume.specs.Blocks.{Claims.after_owners, Inodes.{inode_of, inode
 use Rattle.ffs_volume.specs.Blocks.KeptOffers.{kept_in_offers, kept_in_step, kept_in_steps, kept_in_owners}
 use Rattle.ffs_volume.specs.Blocks.{KeptSteps.claims_before, Owners.{owner_of, owners_of}, Steps.steps_of}
 use Rattle.ffs_volume.specs.{Directories.Volumes.is_inode_number, Encodings.Replay.{fresh_replay, cut_of, cut_at}}
-use Rattle.ffs_volume.specs.{Encodings.ReplayCounts.replayed_runs, Laws.Geometry.IsAcceptedLayout}
+use Rattle.ffs_volume.specs.{Laws.Geometry.IsAcceptedLayout}
+use Rattle.ffs_walk.{proofs.ReplayedRuns.runs_counted, specs.{KeptRuns.kept_runs, declared.kept_runs.KeptRun.KeptRun}}
 use Rattle.ffs_volume.specs.{Report.Whole.run_count, declared.{Layout.Layout, Step.{Step, TheVariants.Run}}}
 use Rattle.ffs_volume.specs.{Encodings.Notes.{cut_in, note_at}}
 use Rattle.ffs_volume.specs.Blocks.BlockCheck.{after_first, set_count}
@@ -19,7 +20,7 @@ use Rattle.ffs_volume.specs.Costs.RescanRuns.{run_offers_of_owners, runs_until_r
 use Rattle.ffs_workspace.proofs.{Leaving.counts_unsurveyed, NoteLaws.cut_is_noted}
 use Rattle.ffs_workspace.specs.{Holds.{HoldsPhase1, HoldsBlockCheck}, declared.workspace.Workspace.Workspace}
 use Rattle.ffs_claims.proofs.{Duplicates.marked_total, Numbers.{before_end, is_inside}, RescanCounts.looked_both}
-use Rattle.ffs_claims.proofs.{RescanCounts.{runs_leave, inode_again, inode_indirect}, StepsContinue.range_more}
+use Rattle.ffs_claims.proofs.{RescanCounts.{runs_leave, inode_again}, StepsContinue.range_more}
 use Rattle.ffs_claims.specs.{Claiming.ReadsIndirect, Lines.owners_from, Reporting.{OffersReported, Phase1bKeeps}}
 use Rattle.ffs_image.specs.Device.{Device}
 use Rattle.ffs_report.{proofs.Reporting.{reports_knowing, reports_same}, specs.{PhaseOutcome.PhaseReports, Progress.Progress}}
@@ -28,16 +29,17 @@ use Rattle.ffs_volume.specs.Report.Whole.{phase1b_messages}
 use Rattle.ffs_maps.specs.Bits.{bits_of}
 use Rattle.ffs_workspace.specs.Found.{WithPhase1}
 use Rattle.ffs_claims.specs.Phases.{WithNotes, phase1b_messages_for}
-use Rattle.ffs_claims.specs.{Rescan.offers_again, RescanRuns.{ReadsIndirectAgain, offers_by_owner, steps_runs_again}}
+use Rattle.ffs_claims.specs.RescanRuns.{ReadsIndirectAgain, offers_by_owner, offers_of_runs, run_offers}
 
--- the offers that the inode n keeps, replayed by its noted cut, and those of each of its Runs
+-- the Runs of the inode n, replayed by its noted cut, the offers that it keeps, and those of each of its Runs
+abbrev pub again_at : Layout → List ℕ → List ℕ → ℕ → List KeptRun
+again_at v bytes notes n = kept_runs v (cut_in (slice_index notes n)) fresh_replay (steps_of v (inode_of v bytes n) bytes)
+
 abbrev pub offers_at : Layout → List ℕ → List ℕ → ℕ → List Offer
-offers_at v bytes notes n = offers_again v n (cut_in (slice_index notes n)) fresh_replay
-    (steps_of v (inode_of v bytes n) bytes)
+offers_at v bytes notes n = offers_of_runs n (again_at v bytes notes n)
 
 abbrev pub runs_at : Layout → List ℕ → List ℕ → ℕ → List (List Offer)
-runs_at v bytes notes n =
-    steps_runs_again v n (cut_in (slice_index notes n)) fresh_replay (steps_of v (inode_of v bytes n) bytes)
+runs_at v bytes notes n = map (run_offers n) (again_at v bytes notes n)
 
 -- those of all inodes from n on
 abbrev pub kept_from : Layout → List ℕ → ℕ → List Offer
@@ -79,16 +81,16 @@ looked_on v bytes notes n dup dup' p d =
     let again = inode_again v n (claims_before v bytes n) (steps_of v (inode_of v bytes n) bytes) in
     let next : runs_from v bytes n ≡ runs_at v bytes notes n ++ runs_from v bytes (n + 1) =
     grind (arith, range_more, before_next, cut_noted) in
-    let left = runs_leave v n (cut_in (slice_index notes n)) fresh_replay dup (steps_of v (inode_of v bytes n) bytes) in
+    let left = runs_leave n dup (again_at v bytes notes n) in
     rw (d, next, looked_both dup (runs_at v bytes notes n) _, left) refl
 
 -- its indirect blocks are those that phase 1 saw
 pub indirect_noted : {v : Layout} {bytes notes : List ℕ} {n : ℕ} (reads reads' : ℕ) → IsNoted v bytes notes n →
-    ReadsIndirectAgain v (cut_in (slice_index notes n)) (steps_of v (inode_of v bytes n) bytes) reads reads' →
+    ReadsIndirectAgain (again_at v bytes notes n) reads reads' →
     ReadsIndirect v (claims_before v bytes n) (owner_of v bytes n) reads reads'
 unfolding owner_of
 indirect_noted {v = v} {bytes = bytes} {n = n} reads reads' p few =
-    let same = inode_indirect v (claims_before v bytes n) (steps_of v (inode_of v bytes n) bytes) in
+    let same = (inode_again v n (claims_before v bytes n) (steps_of v (inode_of v bytes n) bytes)).indirect in
     omega (arith, few, rw (cut_noted p) at same)
 
 -- it is looked at, and so are those after it
@@ -126,10 +128,9 @@ looked_end v bytes dup s n past = let none : inodes_of v - n ≡ 0 = omega arith
 
 -- the count of Runs of an inode more
 pub runs_on : (v : Layout) (bytes notes : List ℕ) (n : ℕ) → IsNoted v bytes notes n →
-    (claims_before v bytes (n + 1)).runs ≡ (claims_before v bytes n).runs
-    + replayed_runs v (cut_in (slice_index notes n)) fresh_replay (steps_of v (inode_of v bytes n) bytes)
+    (claims_before v bytes (n + 1)).runs ≡ (claims_before v bytes n).runs + length (again_at v bytes notes n)
 unfolding owner_of
-runs_on v bytes notes n p = grind (arith, before_next, replay_is_runs)
+runs_on v bytes notes n p = grind (arith, before_next, replay_is_runs, runs_counted)
 
 -- the count of Runs rises
 runs_rise : (v : Layout) (bytes : List ℕ) (n k : ℕ) → 2 ≤ n →

@@ -13,9 +13,8 @@
 -- What claims with nothing to report is claimed together: `SilentAddresses` is about the next addresses of a walk, and
 -- `Series` about those of them that name whole blocks in a row. `FreeInodes` is about inodes that are passed over.
 --
--- Phase 1b, who had a fragment first: `Rescan` has the offers that an inode keeps, replayed, `Reporting` what is
--- reported of them (ReportsOffers), `RescanRuns` how many Runs are looked at for that, and both together of an inode
--- (Rewalks).
+-- Phase 1b, who had a fragment first: `Reporting` has what is reported of kept offers (ReportsOffers), `RescanRuns`
+-- those of the Runs of an inode, how many Runs are looked at for that, and both together of an inode (Rewalks).
 pub mod Moments
 pub mod Lines
 pub mod Bounds
@@ -25,7 +24,6 @@ pub mod Claiming
 pub mod SilentAddresses
 pub mod Series
 pub mod FreeInodes
-pub mod Rescan
 pub mod Reporting
 pub mod RescanRuns
 pub mod Phases

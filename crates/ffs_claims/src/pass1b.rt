@@ -7,50 +7,20 @@ ghost use Rattle.ffs_image.specs.Known.{ForBytes};
 ghost use Rattle.ffs_report.specs.Progress.{progress};
 ghost use Rattle.ffs_volume.specs.Messages.Kinds as messages;
 ghost use Rattle.ffs_workspace.specs.{Found.WithPhase1, Ready.IsReady};
-ghost use Rattle.ffs_walk.specs.Keepings.{replay_in};
-ghost use Rattle.ffs_claims.specs.Moments.{after_one_read, claim_moment, phase_moment};
+ghost use Rattle.ffs_claims.specs.Moments.{after_one_read, phase_moment};
 ghost use Rattle.ffs_claims.specs.{Phases.{IsLeftByPhase1b, Phase1bReads}, Reporting.{CanRewalk, Phase1bKeeps}};
 ghost use Rattle.ffs_claims.specs.Phases.{GoesOverOffers, Phase1bReadsUnlimited, WithNotes, phase1b_messages_for};
 ghost use Rattle.ffs_maps.specs.Bits.{bits_of};
-ghost use Rattle.ffs_claims.specs.{Reporting.ReportsOffers, Rescan.{ReplaysStep, step_offers_again}};
-ghost use Rattle.ffs_claims.specs.RescanRuns.{CanReportStep, CountsStep, RereadsByBlock, Rewalks};
+ghost use Rattle.ffs_claims.specs.RescanRuns.{RereadsByBlock, Rewalks};
 
 use crate::report_offer::report_run;
 use ffs_image::{Image, LimitedImage};
 use ffs_layout::Geometry;
-use ffs_report::{Heading, Line, OutFault, Output, Report, RunFault};
+use ffs_report::{Heading, Line, Output, Report, RunFault};
+use ffs_volume::Inode;
 use ffs_volume::constants::ROOTINO;
-use ffs_volume::{Inode, Step};
-use ffs_walk::{Keeping, Walk};
+use ffs_walk::KeptRuns;
 use ffs_workspace::{Workspace, sweep_reads};
-
-/// Reports, of the offers of a step that the current inode keeps, those that are the first kept
-/// offer of a fragment with a DUP line.
-fn report_step<W: Output>(
-    geometry: &Geometry,
-    workspace: &mut Workspace,
-    number: u32,
-    keeping: &mut Keeping,
-    step: Step,
-    report: &mut Report<'_, W>,
-) -> Result<(), OutFault>
-    requires { CanReportStep geometry.now.layout workspace.old number keeping.old step }
-    ensures reported { ReportsOffers geometry.now.layout
-        (step_offers_again geometry.now.layout number keeping.old.cut (replay_in keeping.old) step)
-        (claim_moment W.Output workspace.old report.old)
-        (claim_moment W.Output workspace.new report.new) result }
-    ensures replays { OnOk result (ReplaysStep geometry.now.layout step keeping.old keeping.new) }
-    ensures runs { CountsStep keeping.old step workspace.old.runs_again workspace.new.runs_again }
-{
-    match step {
-        Step::Run { start, len, .. } => {
-            workspace.runs_again = workspace.runs_again.saturating_add(1);
-            let taken = keeping.take(len, geometry.in_range(start, len));
-            report_run(geometry, workspace, number, start, taken, report)
-        }
-        Step::Tail | Step::Gap => Ok(()),
-    }
-}
 
 /// Walks over the blocks of an inode again, until it is cut or nothing is left to report.
 fn rewalk<I: Image, W: Output>(
@@ -67,20 +37,12 @@ fn rewalk<I: Image, W: Output>(
         (phase_moment I.Image W.Output image.new workspace.new report.new) result }
     ensures table { workspace.new.windows.table ≡ workspace.old.windows.table }
 {
-    let cut = workspace.noted_cut(number);
-    let mut keeping = Keeping::start(cut);
-    let mut walk = Walk::start(geometry, inode);
-    while let Some(next) = walk.next(image, &mut workspace.windows.blocks)? {
-        report_step(geometry, workspace, number, &mut keeping, next, report)?;
-        if !keeping.is_replay_open() {
-            break;
-        }
+    let mut runs = KeptRuns::start(geometry, inode, workspace.noted_cut(number));
+    while let Some(run) = runs.next(image, &mut workspace.windows.blocks)? {
+        workspace.runs_again = workspace.runs_again.saturating_add(1);
+        report_run(geometry, workspace, number, run.start, run.taken, report)?;
         if !workspace.has_unreported_dups() {
             break;
-        }
-        // Of the Gap nothing was reported. Now those after it are passed over.
-        if matches!(next, Step::Gap) {
-            walk.skip_gaps(&workspace.windows.blocks);
         }
     }
     Ok(())

@@ -2,7 +2,7 @@
 --
 -- The owner of a fragment:
 --   Claimed       a fragment is claimed just where an inode keeps an offer of it
---   Replayed      the offers that an inode keeps, as it is walked over again, step by step
+--   Replayed      the lines of an inode that is walked over again, Run by Run
 --   Walking       how the walk over the blocks of an inode continues, and how many steps it has at most
 --   Keepers       how the lines of an inode are found
 --   Owners        the lines of inodes, one after another

@@ -4,10 +4,8 @@ use Rattle.std.proofs.lemmas.Nat.{mul-le}
 use Rattle.ffs_image.specs.Device.{Device}
 use Rattle.ffs_layout.specs.declared.geometry.Geometry.{Geometry}
 use Rattle.ffs_walk.specs.{declared.{blocks.Blocks.Blocks, walk.Walk.Walk}, Windows.{CanWalk, KeepsBlocks}}
-use Rattle.ffs_walk.specs.{Counts.entered, Fits.IsSpent, Frames.frame_left, declared.frame.Frame.Frame, Rests.IsAtTop}
+use Rattle.ffs_walk.specs.{Fits.IsSpent, Frames.frame_left, declared.frame.Frame.Frame, Rests.IsAtTop}
 use Rattle.ffs_walk.specs.Rests.{most_at, most_steps_left}
-use Rattle.ffs_volume.specs.{Encodings.{Replay.{Replay, is_replay_open}, ReplayCounts.seen_run}, declared.Step.Step}
-use Rattle.ffs_volume.specs.{declared.Step.TheVariants.{Run, Tail, Gap}, Find.Owner.indirect_in}
 
 -- at most how many steps lie under an address, by the words of a block
 most_under : (n m1 m2 m3 : ℕ) → n ≤ 16384 → m1 ≡ 2 + n * 1 → m2 ≡ 2 + n * m1 → m3 ≡ 2 + n * m2 → m3 ≤ 4398583414786
@@ -46,16 +44,3 @@ pub blocks_then : {g k : Geometry} {contents contents' : Option (List ℕ)} {b0 
     KeepsBlocks g.layout contents b0 b → KeepsBlocks k.layout contents' b b' →
     KeepsBlocks g.layout contents' b0 b'
 blocks_then same first second = grind arith
-
--- each indirect block that is read is paid by its Run
-pub seen_pays : (cut : ℕ) (r : Replay) (step : Step) → is_replay_open cut r ≡ true → entered step ≤ seen_run cut r step
-seen_pays cut r (Run start len None) q = rw q (omega arith)
-seen_pays cut r (Run start len (Some block)) q = omega arith
-seen_pays cut r Tail q = omega arith
-seen_pays cut r Gap q = omega arith
-
-pub one_indirect : (step : Step) → indirect_in step ≤ 1
-one_indirect (Run start len None) = omega arith
-one_indirect (Run start len (Some block)) = omega arith
-one_indirect Tail = omega arith
-one_indirect Gap = omega arith

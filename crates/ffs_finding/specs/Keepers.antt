@@ -1,22 +1,20 @@
 -- What the program knows of the inodes that keep an offer of a fragment, and what its parts leave.
-use Rattle.std.specs.Prelude.{◌≡◌, ◌+◌, ◌*◌, ◌<◌, ◌≤◌, ◌^◌, ℕ, Bool, true, ◌&&◌, List, [], ◌∷◌, ◌++◌, length, Option}
-use Rattle.std.specs.{Prelude.{if◌then◌else◌, nat_le, nat_lt, slice_index, vec_len, Result}, List.concat}
-use Rattle.ffs_volume.specs.declared.{Inode.Inode, Layout.Layout, Step.{Step, TheVariants.{Run, Tail, Gap}}}
-use Rattle.ffs_volume.specs.{Blocks.{Inodes.{inode_of, inodes_of}, Steps.steps_of}, Encodings.Replay.Replay}
-use Rattle.ffs_volume.specs.Encodings.{Replay.{fresh_replay, is_replay_open}, ReplayCounts.replay_step_by_cut}
+use Rattle.std.specs.Prelude.{◌≡◌, ◌+◌, ◌*◌, ◌<◌, ◌≤◌, ℕ, Bool, ◌&&◌, List, [], ◌∷◌, ◌++◌, length}
+use Rattle.std.specs.Prelude.{if◌then◌else◌, nat_le, nat_lt, slice_index, vec_len, Result}
+use Rattle.ffs_volume.specs.declared.{Inode.Inode, Layout.Layout, Step.Step}
+use Rattle.ffs_volume.specs.{Blocks.{Inodes.{inode_of, inodes_of}, Steps.steps_of}, Encodings.Replay.fresh_replay}
 use Rattle.ffs_volume.specs.{Encodings.ReplayCounts.replayed_runs, Report.Whole.run_count, Groups.Records.group_block}
-use Rattle.ffs_volume.specs.Find.Owner.{group_of_fragment, indirect_in, keeper_lines, keeper_text, map_text}
+use Rattle.ffs_volume.specs.Find.Owner.{group_of_fragment, keeper_lines, keeper_text, map_text}
 use Rattle.ffs_volume.specs.Encodings.Notes.{cut_in}
 use Rattle.ffs_image.specs.Device.{Device}
 use Rattle.ffs_report.specs.declared.fault.RunFault.{RunFault}
 use Rattle.ffs_image.specs.Known.{ForBytes, IsContents}
-use Rattle.ffs_walk.specs.{Keepings.{replay_in, run_taken}, Windows.WindowHolds, declared.keeping.Keeping.Keeping}
+use Rattle.ffs_walk.specs.{KeptRuns.{indirect_in, kept_runs}, Windows.WindowHolds, declared.kept_runs.KeptRun.KeptRun}
 use Rattle.ffs_walk.specs.declared.window.Window.{Window}
 use Rattle.ffs_workspace.specs.{Ready.CanRead, declared.workspace.Workspace.Workspace}
 use Rattle.ffs_finding.specs.Claims.{WithBlocks}
 use Rattle.ffs_check.specs.Moment.{Moment}
-use Rattle.ffs_finding.specs.{Outcome.Finds, declared.owner.{KeptRun.KeptRun, Sought.Sought}}
-use Rattle.ffs_layout.specs.HasVolume.{HasVolume}
+use Rattle.ffs_finding.specs.{Outcome.Finds, declared.owner.Sought.Sought}
 
 -- ---- the map of a group
 -- what the map of its group says of the fragment f can be printed: the volume has f, and its group block is there
@@ -27,7 +25,7 @@ pub record CanPrintMap (v : Layout) (block : List ℕ) (f : ℕ) : Type 0 where
 -- the group block of the fragment f can be read into a window
 pub record CanReadMap (v : Layout) (d : Device) (window : Window) (f : ℕ) : Type 0 where
   pub below : f < v.size
-  pub volume : HasVolume v d
+  pub volume : v.size * v.fsize ≤ d.size
   pub room : vec_len window.buffer ≡ v.bsize
   pub holds : WindowHolds d.contents window
 
@@ -46,32 +44,19 @@ abbrev pub run_text : Sought → (earlier : ℕ) → KeptRun → List ℕ
 run_text s earlier run =
     if is_in_run s.fragment run.start run.taken then keeper_text s.number earlier run.block else []
 
--- the lines of a step and of steps
-abbrev pub step_lines_again : Layout → (f x earlier cut : ℕ) → Replay → Step → List (List ℕ)
-step_lines_again v f x earlier cut r (Run start len block) =
-    if is_replay_open cut r && is_in_run f start (run_taken v cut r start len) then keeper_text x earlier block
-    ∷ [] else []
-step_lines_again v f x earlier cut r Tail = []
-step_lines_again v f x earlier cut r Gap = []
+-- the line of a Run, and the lines of Runs
+abbrev pub run_lines : (f x earlier : ℕ) → KeptRun → List (List ℕ)
+run_lines f x earlier run =
+    if is_in_run f run.start run.taken then keeper_text x earlier run.block ∷ [] else []
 
-unfoldable pub lines_again : Layout → (f x earlier cut : ℕ) → Replay → List Step → List (List ℕ)
-lines_again v f x earlier cut r [] = []
-lines_again v f x earlier cut r (step ∷ steps) =
-    step_lines_again v f x earlier cut r step
-    ++ lines_again v f x (earlier + indirect_in step) cut (replay_step_by_cut v cut r step) steps
-
--- a step can be gone over: the inode isn't cut before it, and one more indirect block can be counted
-pub record CanPrintStep (k : Keeping) (earlier : ℕ) : Type 0 where
-  pub going : is_replay_open k.cut (replay_in k) ≡ true
-  pub room : earlier + 1 < 2 ^ 64
-
--- the bytes of the line of a step, if it has one
-abbrev pub step_text : Layout → Sought → (earlier : ℕ) → Keeping → Step → List ℕ
-step_text v s earlier k step = concat (step_lines_again v s.fragment s.number earlier k.cut (replay_in k) step)
+unfoldable pub lines_of_runs : (f x earlier : ℕ) → List KeptRun → List (List ℕ)
+lines_of_runs f x earlier [] = []
+lines_of_runs f x earlier (run ∷ runs) =
+    run_lines f x earlier run ++ lines_of_runs f x (earlier + indirect_in run) runs
 
 -- the lines of a fragment in an inode with this cut, whose blocks have these steps
 abbrev pub sought_lines : Layout → Sought → List Step → List (List ℕ)
-sought_lines v s steps = lines_again v s.fragment s.number 0 s.cut fresh_replay steps
+sought_lines v s steps = lines_of_runs s.fragment s.number 0 (kept_runs v s.cut fresh_replay steps)
 
 -- an inode was walked over: its lines were printed, and the image was read at most once for each Run that
 -- is seen

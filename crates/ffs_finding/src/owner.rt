@@ -2,28 +2,27 @@
 ghost use Rattle.std.specs.Prelude.{◌≡◌, ◌+◌, ◌*◌, ◌/◌, ◌≤◌, ◌<◌, ◌^◌, length, true, slice_index, vec_len};
 ghost use Rattle.ffs_image.specs.Reads.{ReadsAtMostOnce};
 ghost use Rattle.ffs_volume.specs.{Disk.Areas.{group_place, is_reserved}, Blocks.Inodes.inode_of, Encodings.Kinds.is_allocated_kind};
-ghost use Rattle.ffs_volume.specs.{Encodings.Replay.is_replay_open, Report.Reads.sweep_reads, Groups.Records.bit_at};
-ghost use Rattle.ffs_volume.specs.Find.Owner.{indirect_in, keeper_text, keeper_lines, map_text, lines_of_fragment};
+ghost use Rattle.ffs_volume.specs.{Report.Reads.sweep_reads, Groups.Records.bit_at};
+ghost use Rattle.ffs_volume.specs.Find.Owner.{keeper_text, keeper_lines, map_text, lines_of_fragment};
 ghost use Rattle.ffs_volume.specs.{Find.Owner.{part_text, reserved_text, table_text}, Encodings.Notes.cut_in};
 ghost use Rattle.ffs_report.specs.Sink.{Prints};
 ghost use Rattle.ffs_image.specs.Known.{IsContents};
-ghost use Rattle.ffs_walk.specs.{Keepings.replay_in, Windows.{CanWalk, KeepsBlocks}};
+ghost use Rattle.ffs_walk.specs.{KeptRuns.indirect_in, Windows.{CanWalk, KeepsBlocks}};
 ghost use Rattle.ffs_workspace.specs.Ready.{CanRead, IsReady, KeepsWindows};
 ghost use Rattle.ffs_check.specs.Moment.{moment};
-ghost use Rattle.ffs_claims.specs.Rescan.{ReplaysStep};
-ghost use Rattle.ffs_finding.specs.{Claims.WithBlocks, Outcome.Finds, Keepers.{CanFindKeeper, CanPrintMap, CanPrintStep, CanReadMap}};
+ghost use Rattle.ffs_finding.specs.{Claims.WithBlocks, Outcome.Finds, Keepers.{CanFindKeeper, CanPrintMap, CanReadMap}};
 ghost use Rattle.ffs_finding.specs.LostMaps.{IsBlockWindow};
 ghost use Rattle.ffs_finding.specs.Keepers.{FindsKeeper, FindsAllKeepers, FindsKeptOffers, is_in_run, map_lines, run_text};
-ghost use Rattle.ffs_finding.specs.Keepers.{sought_in, step_text};
+ghost use Rattle.ffs_finding.specs.Keepers.{sought_in};
 
 use crate::group_map::{is_marked_free, map_place};
 use ffs_image::{Image, LimitedImage};
 use ffs_layout::Geometry;
 use ffs_report::print::{print, print_number, print_pieces};
 use ffs_report::{OutFault, Output, Piece, RunFault};
+use ffs_volume::Inode;
 use ffs_volume::constants::{DINODE_SIZE, ROOTINO};
-use ffs_volume::{Inode, Step};
-use ffs_walk::{Blocks, Keeping, Walk, Window};
+use ffs_walk::{Blocks, KeptRun, KeptRuns, Window};
 use ffs_workspace::{Workspace, sweep_reads};
 
 /// Prints which fragment of the inode table of a group this is, by its inodes.
@@ -157,17 +156,6 @@ struct Sought {
     cut: u32,
 }
 
-/// A Run of which an inode keeps an offer.
-#[derive(Clone, Copy, Debug)]
-struct KeptRun {
-    /// Its first fragment.
-    start: u32,
-    /// How many of its fragments are kept: the first ones.
-    taken: u32,
-    /// Its logical block, and none for that of an indirect block.
-    block: Option<u64>,
-}
-
 /// Prints the line of a Run, where the fragment is one of those that are kept. `earlier` counts the
 /// indirect blocks of the inode before it.
 fn print_run<W: Output>(
@@ -197,41 +185,13 @@ fn print_run<W: Output>(
     )
 }
 
-/// Prints the line of a step, where an offer of it that is kept is of the fragment.
-fn print_step<W: Output>(
-    out: &mut W,
-    geometry: &Geometry,
-    sought: Sought,
-    keeping: &mut Keeping,
-    earlier: u64,
-    step: Step,
-) -> Result<(), OutFault>
-    requires { CanPrintStep keeping.old earlier }
-    ensures prints { Prints (W.sink out.old) (W.sink out.new)
-        (step_text geometry.now.layout sought earlier keeping.old step) result }
-    ensures replays { ReplaysStep geometry.now.layout step keeping.old keeping.new }
-{
-    match step {
-        Step::Run { start, len, block } => {
-            let taken = keeping.take(len, geometry.in_range(start, len));
-            let run = KeptRun {
-                start,
-                taken,
-                block,
-            };
-            print_run(out, sought, earlier, run)
-        }
-        Step::Tail | Step::Gap => Ok(()),
-    }
-}
-
 /// 1 for the Run of an indirect block, else 0.
-fn indirect_in(step: Step) -> u64
-    ensures { result ≡ indirect_in step }
+fn indirect_in(run: KeptRun) -> u64
+    ensures { result ≡ indirect_in run }
 {
-    match step {
-        Step::Run { block: None, .. } => 1,
-        _ => 0,
+    match run.block {
+        None => 1,
+        Some(_) => 0,
     }
 }
 
@@ -253,19 +213,11 @@ fn find_kept_offers<I: Image, W: Output>(
     ensures blocks { KeepsBlocks geometry.now.layout (I.device image.new).contents blocks.old
         blocks.new }
 {
-    let mut keeping = Keeping::start(sought.cut);
-    let mut walk = Walk::start(geometry, inode);
+    let mut runs = KeptRuns::start(geometry, inode, sought.cut);
     let mut earlier = 0;
-    while let Some(step) = walk.next(image, blocks)? {
-        print_step(out, geometry, sought, &mut keeping, earlier, step)?;
-        if !keeping.is_replay_open() {
-            break;
-        }
-        earlier += indirect_in(step);
-        // Of the Gap nothing was printed. Now those after it are passed over.
-        if matches!(step, Step::Gap) {
-            walk.skip_gaps(blocks);
-        }
+    while let Some(run) = runs.next(image, blocks)? {
+        print_run(out, sought, earlier, run)?;
+        earlier += indirect_in(run);
     }
     Ok(())
 }

@@ -17,6 +17,7 @@
 --   GapSteps    words of zero are gaps, at every level
 --   WalkSteps   the steps of a file at each level of indirect blocks, and of a walk that has nothing left there
 --   Counted     the reads that are still to come of a walk
+--   ReplayedRuns  the Runs of an inode that is walked over again, one after another
 pub mod AnySet
 pub mod Powers
 pub mod WordBytes
@@ -29,3 +30,4 @@ pub mod Splices
 pub mod GapSteps
 pub mod WordSteps
 pub mod Counted
+pub mod ReplayedRuns

@@ -1,5 +1,5 @@
 -- Blocks of which one is read anew.
-use Rattle.std.proofs.Common.{◌≡◌, ◌≢◌, ℕ, ◌+◌, ◌-◌, ◌*◌, ◌<◌, ◌≤◌, List, length, take, Option, Some, None, ◌⊎◌}
+use Rattle.std.proofs.Common.{◌≡◌, ◌≢◌, ◌∙◌, ℕ, ◌+◌, ◌-◌, ◌*◌, ◌<◌, ◌≤◌, List, length, take, Option, Some, None, ◌⊎◌}
 use Rattle.std.{proofs.Common.{inl, inr, arith, ap, slice_set}, specs.Prelude.{Vec, vec_len}}
 use Rattle.std.{specs.Vec.with_items, proofs.lemmas.List.{drop-take, get_or-set_same, get_or-set_other, length-set}}
 use Rattle.std.proofs.lemmas.{List.{length-take-le, length-drop, with_items_is}, Slice.take-put_mid_below}
@@ -7,7 +7,7 @@ use Rattle.std.proofs.lemmas.Slice.{drop-put_mid, between-put_mid}
 use borrow.Rule.Slice.PartMut.{put_mid, same_len_mid}
 use Rattle.ffs_image.specs.Device.{ForContents}
 use Rattle.ffs_volume.specs.{Disk.Numbers.piece, Blocks.Steps.block_bytes, declared.Layout.Layout}
-use Rattle.ffs_walk.specs.{declared.blocks.Blocks.Blocks, Windows.{BlocksHold, level_bytes, held_address}}
+use Rattle.ffs_walk.specs.{declared.blocks.Blocks.Blocks, Windows.{BlocksHold, KeepsBlocks, level_bytes, held_address}}
 
 -- a write to a part leaves what is before it and after it
 pub piece_kept : (a k p n : ℕ) (xs ys : List ℕ) → a + k ≤ length xs → length ys ≡ k → (p + n ≤ a) ⊎ (a + k ≤ p) →
@@ -68,3 +68,8 @@ pub held_with : (v : Layout) (contents contents' : Option (List ℕ)) (old : Blo
     })
 held_with v contents contents' old level address k items ys holds same is size len room lt within read =
     grind (arith, written_is, held_apart, get_or-set_other, get_or-set_same, length-set, piece_written)
+
+-- blocks that hold what the image gives after one read and after another
+pub keeps_then : {v v' : Layout} {contents contents' : Option (List ℕ)} {b0 b b' : Blocks} → v' ≡ v →
+    KeepsBlocks v contents b0 b → KeepsBlocks v' contents' b b' → KeepsBlocks v contents' b0 b'
+keeps_then same p q = record { size = q.size ∙ p.size; holds = rw same at q.holds }

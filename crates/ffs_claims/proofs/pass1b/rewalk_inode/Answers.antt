@@ -1,9 +1,7 @@
 use Rattle.std.proofs.{Common.{◌∙◌, ap, arith}}
-use Rattle.ffs_volume.specs.Blocks.Steps.{steps_of}
-use Rattle.ffs_volume.specs.Encodings.Replay.{fresh_replay}
 use Rattle.ffs_report.proofs.Reporting.{reads_first}
 use Rattle.ffs_workspace.specs.Tables.{TakesPiece}
-use Rattle.ffs_claims.{proofs.{Reportings.part_none}, specs.RescanRuns.{indirect_again, noted_cut}}
+use Rattle.ffs_claims.{proofs.{Reportings.part_none}, specs.RescanRuns.{indirect_among, noted_runs}}
 use Rattle.ffs_volume.proofs.Results.{on_any}
 use Rattle.ffs_claims.proofs.pass1b.rewalk_inode.Goals as goal
 
@@ -26,14 +24,14 @@ returns-clause-by_block g c =
     let v = c.args.geometry.now.layout in
     let gives = ap (λ d. d.contents) c.in_ok-inode.ensures.inode.reads.read in
     let did = c.rewalk.ensures in
-    let cut = noted_cut c.args.workspace.now c.args.number in
     record {
       again = λ held. did.table ∙ c.in_ok-inode.ensures.inode.piece.0 held;
       known = λ held bytes t. omega (
         arith,
         c.in_ok-inode.ensures.inode.again held,
         did.walks.known bytes (gives ∙ t),
-        ap (λ i. indirect_again v cut fresh_replay (steps_of v i bytes)) (c.in_ok-inode.ensures.inode.reads.inode bytes t),
+        ap (λ i. indirect_among (noted_runs v c.args.workspace.now c.args.number i bytes))
+            (c.in_ok-inode.ensures.inode.reads.inode bytes t),
       );
       block = λ unheld. on_any c.rewalk.result (rw did.table (c.in_ok-inode.ensures.inode.piece.1 unheld));
     }

@@ -1,0 +1,68 @@
+-- The Runs of an inode that is walked over again, until it is cut.
+use Rattle.std.specs.Prelude.{◌≡◌, ◌+◌, ◌<◌, ◌≤◌, ℕ, if◌then◌else◌, List, [], ◌∷◌, ◌++◌, Option, Some, None}
+use Rattle.std.specs.Prelude.{IfSome, MatchOption, Result, IfOk, OnErr, OnOk}
+use Rattle.ffs_image.specs.{Device.ForContents, declared.image.ImageFault.ImageFault}
+use Rattle.ffs_volume.specs.declared.{Inode.Inode, Layout.Layout, Step.{Step, TheVariants.{Run, Gap, Tail}}}
+use Rattle.ffs_volume.specs.{Blocks.Steps.steps_of, Encodings.Replay.{Replay, fresh_replay, is_replay_open}}
+use Rattle.ffs_volume.specs.Encodings.Replay.{replay_after_step}
+use Rattle.ffs_layout.specs.declared.geometry.Geometry.{Geometry}
+use Rattle.ffs_walk.specs.{declared.{blocks.Blocks.Blocks, kept_runs.{KeptRun.KeptRun, KeptRuns.KeptRuns}, walk.Walk.Walk}}
+use Rattle.ffs_walk.specs.{Counts.{AreHeld, unread}, Keepings.{replay_in, run_taken}, Windows.{BlocksAfter, ImageWith}}
+use Rattle.ffs_walk.specs.Rests.{IsAtTop, most_steps_left, steps_left}
+
+-- the Run of a step, if it is seen
+abbrev pub step_run : Layout → (cut : ℕ) → Replay → Step → List KeptRun
+step_run v cut r (Run start len block) = if is_replay_open cut r
+    then record { start = start; taken = run_taken v cut r start len; block = block } ∷ [] else []
+step_run v cut r Tail = []
+step_run v cut r Gap = []
+
+-- the Runs of steps that are seen, each with how many of its offers are kept
+unfoldable pub kept_runs : Layout → (cut : ℕ) → Replay → List Step → List KeptRun
+kept_runs v cut r [] = []
+kept_runs v cut r (step ∷ steps) = step_run v cut r step ++ kept_runs v cut (replay_after_step v cut r step) steps
+
+-- those that are left, in an image of these bytes
+abbrev pub runs_left : List ℕ → KeptRuns → List KeptRun
+runs_left bytes k = kept_runs k.walk.geometry.layout k.keeping.cut (replay_in k.keeping) (steps_left bytes k.walk)
+
+-- all Runs of an inode with this cut are left
+pub record AreRunsOf (g : Geometry) (inode : Inode) (cut : ℕ) (k : KeptRuns) : Type 0 where
+  pub runs : (bytes : List ℕ) → runs_left bytes k ≡ kept_runs g.layout cut fresh_replay (steps_of g.layout inode bytes)
+  pub geometry : k.walk.geometry ≡ g
+  pub top : IsAtTop k.walk
+
+-- 1 for the Run of an indirect block, which has no logical block
+abbrev pub indirect_by : Option ℕ → ℕ
+indirect_by None = 1
+indirect_by (Some block) = 0
+
+abbrev pub indirect_in : KeptRun → ℕ
+indirect_in run = indirect_by run.block
+
+abbrev pub indirect_given : Option KeptRun → ℕ
+indirect_given None = 0
+indirect_given (Some run) = indirect_in run
+
+-- the next Run in an image of these contents is given, and the others are left; None comes after the last
+pub record IsNextRun (contents : Option (List ℕ)) (old new : KeptRuns) (answer : Option KeptRun) : Type 0 where
+  pub runs : ForContents contents (λ bytes. MatchOption answer (runs_left bytes old ≡ [])
+      (λ run. runs_left bytes old ≡ run ∷ runs_left bytes new))
+  pub falls : IfSome answer (λ _. most_steps_left new.walk < most_steps_left old.walk)
+
+-- giving a Run reads only a block that was still to be read
+pub record RunReads (before after : ImageWith Blocks) (old new : Walk) (result : Result (Option KeptRun) ImageFault) :
+    Type 0 where
+  pub most : after.reads ≤ before.reads + unread old
+  pub paid : IfOk result (λ answer. after.reads + unread new ≤ before.reads + unread old + indirect_given answer)
+  pub held : OnOk result (AreHeld after.cache new)
+
+-- the next Run is given, or a read failed, after which none comes. Where the blocks that were read are held,
+-- only one that was still to be read is read
+pub record GivesRun (before after : ImageWith Blocks) (old new : KeptRuns) (result : Result (Option KeptRun) ImageFault)
+    : Type 0 where
+  pub run : IfOk result (IsNextRun before.image.contents old new)
+  pub over : OnErr result ((bytes : List ℕ) → runs_left bytes new ≡ [])
+  pub geometry : new.walk.geometry ≡ old.walk.geometry
+  pub leaves : BlocksAfter old.walk.geometry.layout before after result
+  pub counted : AreHeld before.cache old.walk → RunReads before after old.walk new.walk result
