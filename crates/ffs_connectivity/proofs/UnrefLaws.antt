@@ -1,6 +1,6 @@
 -- The test of an unreferenced directory, from what a workspace holds of each inode.
-use Rattle.std.proofs.Common.{◌≡◌, ◌≢◌, ℕ, zero, suc, ◌<◌, ◌≤◌, ◌==◌, Bool, true, false, ◌&&◌, ◌||◌, nat_le, List, length}
-use Rattle.std.proofs.Common.{Option, None, Some, unwrap_or, refl, arith, sym, ◌∙◌, ap, inl, inr, ◌⊎◌}
+use Rattle.std.proofs.Common.{◌≡◌, ◌≢◌, ℕ, zero, suc, ◌<◌, ◌==◌, false, ◌||◌, nat_le, List, length}
+use Rattle.std.proofs.Common.{Option, None, Some, unwrap_or, refl, arith, ◌∙◌, ap, inl, inr, ◌⊎◌}
 use Rattle.std.proofs.lemmas.Bool.Decides.{nat_tests}
 use mathlib.Core.Path.{fun_ext}
 use Rattle.ffs_volume.specs.Directories.{Climb.is_leader_within, Graph.{Graph, parent, parent_by}, Naming.graph_of}

@@ -1,6 +1,6 @@
 -- Laws of walks along parents.
 use Rattle.std.proofs.Common.{◌≡◌, ◌≢◌, ℕ, zero, suc, ◌+◌, ◌-◌, ◌<◌, ◌≤◌, ◌==◌, Bool, true, false, List, length, Option}
-use Rattle.std.proofs.Common.{None, Some, arith, sym, ◌∙◌, ap, inl, inr, set, ◌⊎◌, get_or, get_or-set_same}
+use Rattle.std.proofs.Common.{None, Some, arith, sym, ◌∙◌, ap, inl, inr, set, ◌⊎◌, get_or-set_same}
 use Rattle.std.proofs.{Common.{All, get_or-set_other, length-set, unwrap_or}, lemmas.Bool.{cases_eq, false_from_ne_true}}
 use Rattle.std.proofs.lemmas.Bool.{both_ways, cases_lt, eqb-true}
 use Rattle.ffs_volume.{specs.Disk.Search.first_below, specs.Directories.Climb.is_value, proofs.ClimbLaws.is_value-from}

@@ -1,11 +1,11 @@
 -- How a reading of chunks continues, and that its windows can be read into from read to read.
-use Rattle.std.proofs.Common.{◌≡◌, ◌≤◌, ◌∙◌, ℕ, List, Option, Result, Ok, Err, ap, arith, refl}
+use Rattle.std.proofs.Common.{◌≡◌, ◌≤◌, ◌∙◌, ℕ, List, Result, Ok, Err, ap, arith, refl}
 use Rattle.ffs_image.specs.{Device.Device, Reads.ReadAfter, declared.image.ImageFault.ImageFault}
 use Rattle.ffs_volume.specs.declared.Step.{Step}
 use Rattle.ffs_layout.specs.declared.geometry.Geometry.{Geometry}
 use Rattle.ffs_walk.specs.{Windows.{CanWalk, KeepsBlocks}, declared.{blocks.Blocks.Blocks, window.Window.Window}}
 use Rattle.ffs_names.specs.{declared.chunks.Chunks.Chunks, Windows.{CanWalkDir, CanReadChunks}, Readings.Continues}
-use Rattle.ffs_names.specs.Readings.{ContinuesTo, CountsOn, CountsRuns, IsSame, StopsChunks}
+use Rattle.ffs_names.specs.Readings.{ContinuesTo, CountsOn, IsSame}
 
 pub no_more : (n : ℕ) → n ≤ n
 no_more n = omega arith

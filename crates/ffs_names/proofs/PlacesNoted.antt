@@ -1,24 +1,25 @@
 -- What is noted of places, entry by entry, chunk by chunk and directory by directory.
 use Rattle.std.proofs.Common.{◌≡◌, ◌≢◌, ℕ, zero, suc, ◌+◌, ◌*◌, ◌/◌, ◌<◌, ◌≤◌, ◌==◌, Bool, true, false, not, ◌&&◌, ◌||◌}
 use Rattle.std.proofs.Common.{◌⊎◌, List, [], ◌∷◌, length, Option, Some, None, refl, sym, ap, ◌∙◌, arith, inl, inr}
-use Rattle.std.proofs.Common.{flat_map, if◌then◌else◌, is_some, slice_index, slice_set, unwrap_or, vec_len}
+use Rattle.std.proofs.Common.{flat_map, if◌then◌else◌, slice_index, slice_set, unwrap_or, vec_len}
 use Rattle.std.{specs.List.list_any, proofs.{Math.Bool.and-false, lemmas.Bool.{Decides.nat_tests, and_from, and_parts}}}
 use Rattle.std.proofs.lemmas.Bool.{both_ways, cases_eq, cond-false, eq-eqb, eqb-true, leb-true, ltb-true}
 use Rattle.std.proofs.lemmas.{Bool.{ne_eqb, not_from_false, not-true}, List.{Folds.list_any-append, get_or_past}}
 use Rattle.std.{proofs.lemmas.List.{get_or-set_other, get_or-set_same}, specs.declared.vec.Vec.Vec}
 use Rattle.std.specs.declared.alloc.Global.{Global}
 use Rattle.ffs_image.specs.Device.{Device}
-use Rattle.ffs_volume.proofs.{LevelLaws.{level-before, level-is, level-some, within-zero}, SearchLaws.first_below-none}
+use Rattle.ffs_volume.proofs.{LevelLaws.{level-some, within-zero}}
 use Rattle.ffs_volume.{proofs.{SearchLaws.first_below-some, Unreached.edge-parts}, specs.declared.Layout.Layout}
-use Rattle.ffs_volume.specs.{Disk.{Numbers.piece, Search.first_below}, Laws.{Geometry.IsAcceptedLayout, Levels.IsLevel}}
+use Rattle.ffs_volume.specs.{Disk.{Numbers.piece}, Laws.{Geometry.IsAcceptedLayout}}
 use Rattle.ffs_volume.specs.Directories.{Entries.{Chunk, Entry, chunk_of, entries_of}, Graph.{Graph, edge}}
-use Rattle.ffs_volume.specs.Directories.Graph.{is_naming_dir, is_naming_entry, level, level_edge, parent, parent_by}
-use Rattle.ffs_volume.specs.Directories.{Graph.reached, Climb.is_value, Naming.graph_of, Roles.{RoledEntry, is_dir}}
+use Rattle.ffs_volume.specs.Directories.Graph.{is_naming_dir, is_naming_entry, level, parent, parent_by}
+use Rattle.ffs_volume.specs.Directories.{Naming.graph_of, Roles.{RoledEntry, is_dir}}
 use Rattle.ffs_volume.specs.Directories.{Roles.{role_of, roled_chunk, roled_entries, roled_from}, Volumes.volume_of}
 use Rattle.ffs_volume.specs.{Directories.Volumes.volume_with, Blocks.Inodes.inodes_of}
 use Rattle.ffs_volume.specs.Encodings.Places.{entries_in_chunk, entries_in_part, is_due as is_to_be_read, name_in}
 use Rattle.ffs_volume.specs.Encodings.Places.{part_size, part_in, AreParts, AreNoted, IsNoted}
 use Rattle.ffs_walk.specs.declared.{blocks.Blocks.Blocks, window.Window.Window}
+use Rattle.ffs_survey.proofs.ParentLaws.{parent_above, IsAbove}
 use Rattle.ffs_workspace.proofs.{Leaving.counts_same, PlaceLaws.{any_naming-roled, name_in-after, name_in-among}}
 use Rattle.ffs_workspace.{proofs.PlaceLaws.name_in-roled, specs.{Holds.{HoldsBlockCheck, HoldsSurvey}, Ready.CanRead}}
 use Rattle.ffs_workspace.{specs.Tables.TableHolds, proofs.PartLaws.{begins_part, lies_in_part, BeginsPart}}
@@ -36,10 +37,7 @@ notes_none parents ws p place = record { places = λ x. simp and-false; to_read 
 
 then_on : (m n y : Bool) (a b c place : ℕ) → 0 < place → b ≡ (if m && ((a == 0) && (n || false)) then place else a) → c
     ≡ (if m && ((b == 0) && y) then place else b) → c ≡ (if m && ((a == 0) && (n || y)) then place else a)
-then_on false n y a b c place low one more = more ∙ one
-then_on true true y a b c place low one more = grind (arith, nat_tests)
-then_on true false true a b c place low one more = grind (arith, nat_tests)
-then_on true false false a b c place low one more = grind (arith, nat_tests)
+then_on m n y a b c place low one more = grind (arith, nat_tests)
 
 -- an entry, and those after it
 notes_then : {parents old mid new : List ℕ} {p place : ℕ} {e : RoledEntry} {es : List RoledEntry} → 0 < place →
@@ -85,14 +83,11 @@ noted_still : {v : Layout} {b old new : List ℕ} {x : ℕ} →
 noted_still same h = record { part = h.part; place = same ∙ h.place; inside = h.inside; named = h.named }
 
 kept_place : (m y : Bool) (a b place j : ℕ) → a ≡ suc j → b ≡ (if m && ((a == 0) && y) then place else a) → b ≡ a
-kept_place true y a b place j some e = grind (arith, nat_tests)
-kept_place false y a b place j some e = e
+kept_place m y a b place j some e = grind (arith, nat_tests)
 
 unnoted : (m y : Bool) (a b place : ℕ) → place ≢ 0 → m ≡ true → b ≡ (if m && ((a == 0) && y) then place else a) →
     b ≡ 0 → (a ≡ 0) × (y ≡ false)
-unnoted true true a b place some child e none = absurd (grind (arith, nat_tests))
-unnoted true false a b place some child e none = (grind (arith, nat_tests), refl)
-unnoted false y a b place some child e none = absurd (cc)
+unnoted m y a b place some child e none = grind (arith, nat_tests)
 
 -- an inode with the parent p of which no place is noted is named in no chunk of the current Run that
 -- was given
@@ -149,12 +144,7 @@ module _ {v : Layout} {b parents old new : List ℕ} {p place at offset : ℕ} {
   unnamed_here : (x : ℕ) → list_any (is_naming_entry x) (entries_in_chunk v.order bytes) ≡ false →
       (name_in x (flat_map roled_chunk rest) ≡ name_in x (flat_map roled_chunk later))
       × (list_any (is_naming_entry x) (flat_map roled_chunk rest) ≡ list_any (is_naming_entry x) (flat_map roled_chunk later))
-  unnamed_here x e =
-      let chunk = chunk_of v.order offset bytes in
-      let none = any_naming-roled x (offset == 0) false 0 0 (entries_of v.order bytes) ∙ e in (
-        rw k.next (name_in-after x (roled_chunk chunk) (flat_map roled_chunk later) none),
-        rw (k.next, list_any-append (is_naming_entry x) (roled_chunk chunk) (flat_map roled_chunk later), none) refl,
-      )
+  unnamed_here x e = grind (arith, name_in-after, any_naming-roled, list_any-append)
 
   -- it has the first one of those whose place it is
   pub noted_chunk : (first : List ℕ) (all : List RoledEntry) → AreToCome parents old p all (flat_map roled_chunk rest) →
@@ -185,8 +175,7 @@ module _ {v : Layout} {b parents old new : List ℕ} {p place at offset : ℕ} {
   -- those of which none is noted still have theirs to come
   pub coming_after : (all : List RoledEntry) → AreToCome parents old p all (flat_map roled_chunk rest) →
       AreToCome parents new p all (flat_map roled_chunk later)
-  coming_after all coming x child none =
-      let was = still_none x child none in coming x child was.0 ∙ (unnamed_here x was.1).0
+  coming_after all coming x child none = grind (arith, still_none, unnamed_here)
 
   -- no chunk of the current Run that was given names an inode of which none is noted
   pub unnamed_after : AreUnnamed v b parents new p cursor'
@@ -330,47 +319,14 @@ pub none_to_be_read : (ws : List ℕ) (n : ℕ) → length ws ≤ n → ((x : �
 none_to_be_read ws n long was_read x = grind (arith, get_or_past)
 
 -- ---- directories that are reached
--- p is the parent of x, a directory that is reached and isn't the root
-pub record IsUnder (g : Graph) (x p : ℕ) : Type 0 where
-  pub other : (x == 2) ≡ false
-  pub dir : g.is_dir x ≡ true
-  pub joined : reached g x ≡ true
-  pub up : parent g x ≡ Some p
-  pub below : p < g.count
-  pub link : edge g p x ≡ true
-
--- a directory with a level above 0 has a parent
-level_under : (g : Graph) (x k : ℕ) → level g x ≡ Some (suc k) → (p : ℕ) × IsUnder g x p
-unfolding parent
-level_under g x k h = go (first_below (λ s. level_edge g k s x) g.count) refl
-  where
-    before : (s : ℕ) × (s < g.count) × IsLevel g k s × (edge g s x ≡ true)
-    before = level-before g k x (level-some g (suc k) x h).0
-
-    go : (o : Option ℕ) → first_below (λ s. level_edge g k s x) g.count ≡ o → (p : ℕ) × IsUnder g x p
-    go None e = absurd (both_ways (level_edge g k before.0 x)
-        (first_below-none (λ s. level_edge g k s x) g.count e before.0 before.1)
-        (and_from (is_value (level g before.0) k) (edge g before.0 x)
-        (rw (level-is g k before.0 before.1 before.2) (eq-eqb k k refl)) before.3))
-    go (Some p) e =
-        let first = first_below-some (λ s. level_edge g k s x) g.count p e in
-        let link = (and_parts (is_value (level g p) k) (edge g p x) first.passes).1 in
-        let other : (x == 2) ≡ false =
-        sym (within-zero g x) ∙ (level-some g (suc k) x h).0.least 0 (omega arith) in (
-          p,
-          record {
-            other = other;
-            dir = (edge-parts g p x link).0;
-            joined = ap is_some h;
-            up = cond-false (x == 2) (Some 2) (parent_by g x (level g x)) other ∙ (ap (parent_by g x) h ∙ e);
-            below = first.below;
-            link = link;
-          },
-        )
+-- a directory with a level above 0 isn't the root
+not_root : (g : Graph) (x k : ℕ) → level g x ≡ Some (suc k) → (x == 2) ≡ false
+not_root g x k h = sym (within-zero g x) ∙ (level-some g (suc k) x h).0.least 0 (omega arith)
 
 -- a place is noted of each directory that is reached and isn't the root, or its parent is to be read
 abbrev pub AreComing : Layout → List ℕ → (words : List ℕ) → Type 0
-AreComing v b words = (x p : ℕ) → IsUnder (graph_of (volume_of v b)) x p →
+AreComing v b words = (x p k : ℕ) → level (graph_of (volume_of v b)) x ≡ Some (suc k) →
+    IsAbove (graph_of (volume_of v b)) k x p →
     IsNoted v b words x ⊎ ((part_in (slice_index words x) ≡ 0) × (is_to_be_read (slice_index words p) ≡ true))
 
 -- the number of a directory
@@ -380,7 +336,8 @@ dir_number v b x h = grind (arith, and_parts, leb-true, ltb-true)
 
 pub coming_first : {v : Layout} {b : List ℕ} {w : Workspace} {words : Vec ℕ Global} → length w.reached.items ≡ inodes_of v →
     BeginsNotes w.reached.items w.parents.items words → HoldsSurvey v b w → AreComing v b words.items
-coming_first {v = v} {b = b} {w = w} {words = words} long begins survey x p under = grind (arith, dir_number)
+coming_first {v = v} {b = b} {w = w} {words = words} long begins survey x p k there under =
+    grind (arith, not_root, dir_number, edge-parts)
 
 -- after the directory d, which was to be read, is noted
 pub coming_noted : {v : Layout} {b : List ℕ} {w : Workspace} {mid new : List ℕ} {d : ℕ} (old : List ℕ) → HoldsSurvey v b
@@ -389,22 +346,22 @@ pub coming_noted : {v : Layout} {b : List ℕ} {w : Workspace} {mid new : List �
     → NotesEach v b (is_child_of w.parents.items d) (roled_entries (volume_of v b) d) mid new) → NotesChildren w.parents.items mid new d →
     AreComing v b old → AreComing v b new
 coming_noted {v = v} {b = b} {w = w} {mid = mid} {new = new} {d = d} old survey same others noted children coming
-    x p under = go (cases_eq p d)
+    x p k there under = go (cases_eq p d)
   where
     up : slice_index w.parents.items x ≡ p
-    up = survey.tree.parents x ∙ ap (λ (o : Option ℕ). unwrap_or o 0) under.up
+    up = survey.tree.parents x ∙ ap (λ (o : Option ℕ). unwrap_or o 0) under.is
 
     before : IsNoted v b mid x ⊎ ((part_in (slice_index mid x) ≡ 0) × (is_to_be_read (slice_index old p) ≡ true))
-    before = elim (coming x p under) [ inl is ↦ inl (noted_still (same x) is) | inr w ↦ inr (same x ∙ w.0, w.1) ]
+    before = elim (coming x p k there under) [ inl is ↦ inl (noted_still (same x) is) | inr w ↦ inr (same x ∙ w.0, w.1) ]
 
     go : (p ≡ d) ⊎ (p ≢ d) →
         IsNoted v b new x ⊎ ((part_in (slice_index new x) ≡ 0) × (is_to_be_read (slice_index new p) ≡ true))
     go (inl e) =
         let link = and_parts (is_dir (volume_of v b) p) (list_any (is_naming_entry x) (roled_entries (volume_of v b) p))
-        (and_parts (is_dir (volume_of v b) x) (is_naming_dir (graph_of (volume_of v b)) p x) under.link).1 in
+        (and_parts (is_dir (volume_of v b) x) (is_naming_dir (graph_of (volume_of v b)) p x) under.linked).1 in
         let child : is_child_of w.parents.items d x ≡ true =
         and_from (slice_index w.parents.items x == d) (not (x == 2)) (eq-eqb (slice_index w.parents.items x) d (up ∙ e))
-        (not_from_false (x == 2) under.other) in
+        (not_from_false (x == 2) (not_root (graph_of (volume_of v b)) x k there)) in
         inl (noted (rw e at link.0) x child (rw e at link.1)
         (elim before [ inl is ↦ inr is | inr w ↦ inl w.0 ]))
     go (inr o) =
@@ -418,7 +375,14 @@ coming_noted {v = v} {b = b} {w = w} {mid = mid} {new = new} {d = d} old survey 
 -- where nothing is to be read any more, all are noted
 pub coming_end : (v : Layout) (b words : List ℕ) → ((x : ℕ) → x < inodes_of v → is_to_be_read (slice_index words x) ≡ false) →
     AreComing v b words → AreNoted v b words
-coming_end v b words none coming x k h = grind (arith, level_under, both_ways, dir_number, edge-parts)
+coming_end v b words none coming x k h =
+    let above = parent_above (graph_of (volume_of v b)) k x h in
+    elim (coming x above.0 k h above.1) [
+      | inl is ↦ is
+      | inr w ↦
+          let dir = (edge-parts (graph_of (volume_of v b)) above.0 x above.1.linked).1 in
+          absurd (both_ways (is_to_be_read (slice_index words above.0)) (none above.0 (dir_number v b above.0 dir).1) w.1)
+    ]
 
 -- ---- what is to be read
 -- only parents are to be read: one more of them is, and one isn't any more

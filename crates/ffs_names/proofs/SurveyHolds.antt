@@ -2,7 +2,6 @@
 use Rattle.std.proofs.Common.{◌≡◌, ◌∙◌, ◌+◌, ◌≤◌, ℕ, Bool, true, false, List, Option, Some, None, IfNone, ap, arith, length}
 use Rattle.std.{proofs.{Common.{min, slice_index, sym, refl}, lemmas.Bool.and_parts}, specs.Result.is_ok}
 use Rattle.std.specs.Prelude.{Result, Ok, Err, OnOk, OnErr}
-use Rattle.ffs_image.specs.Known.{ForBytes}
 use Rattle.ffs_volume.specs.{declared.Layout.Layout, Encodings.Kinds.kind_at, Directories.Naming.graph_of}
 use Rattle.ffs_volume.specs.Directories.{Roles.{Volume, references, references_below, roled_entries}, Volumes.{volume_of, volume_with}}
 use Rattle.ffs_volume.specs.{Encodings.Links.start_at, Blocks.Inodes.inodes_of, Costs.Calm.is_directory_of_right_shape}

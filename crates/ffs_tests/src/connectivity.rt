@@ -9,9 +9,7 @@ use ffs_connectivity::{flag_leaders, phase3};
 use ffs_image::Image;
 use ffs_layout::{Geometry, Order};
 use ffs_report::{Counted, Report, RunFault};
-use ffs_samples::{
-    Number, flags, geometry, image_of, numbers, set_first, set_first_filled,
-};
+use ffs_samples::{Number, flags, geometry, image_of, numbers, set_first, set_first_filled};
 use ffs_workspace::Workspace;
 use std::alloc::{AllocError, Global};
 use std::test::Fail;

@@ -16,9 +16,6 @@ pub record IsLost (v : Graph) (suspect : ℕ → Bool) (d : ℕ) : Type 0 where
 pub lost-true : (v : Graph) (suspect : ℕ → Bool) (d : ℕ) → is_lost_in v suspect d ≡ true → IsLost v suspect d
 lost-true v suspect d h = grind (arith, nat_tests)
 
-pub lost-from : (v : Graph) (suspect : ℕ → Bool) (d : ℕ) → IsLost v suspect d → is_lost_in v suspect d ≡ true
-lost-from v suspect d h = rw (h.alive, h.dir, ne_eqb d 2 h.not_root, h.unreached)
-
 pub unreached-level : (v : Graph) (d : ℕ) → reached v d ≡ false → level v d ≡ None
 unreached-level v d h = is_some-none (level v d) h
 

@@ -1,4 +1,4 @@
-use Rattle.std.proofs.{Common.{◌≡◌, ◌∷◌, [], map, refl, sym, ◌∙◌, arith, rules, true}, lemmas.Result.err_from_is_err_and}
+use Rattle.std.proofs.{Common.{◌≡◌, ◌∷◌, [], map, refl, ◌∙◌, arith, rules, true}, lemmas.Result.err_from_is_err_and}
 use Rattle.ffs_volume.specs.{Directories.{Connectivity.is_unref_dir, Volumes.volume_of}, Messages.Kinds.of_tree}
 use Rattle.ffs_report.proofs.Paying.{paid_none, paid_reads, paid_stops}
 use Rattle.ffs_image.specs.Known.{ForBytes}
