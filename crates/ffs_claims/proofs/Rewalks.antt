@@ -1,7 +1,8 @@
 -- How a second walk over an inode continues.
 use Rattle.std.proofs.Common.{◌≡◌, ◌≢◌, ◌≤◌, ℕ, ◌+◌, List, [], ◌∷◌, arith, ap, ne_eqb, length, map, min}
 use Rattle.std.proofs.{Common.{◌<◌, ◌-◌, ◌^◌, Ok}}
-use Rattle.ffs_volume.specs.{declared.{Layout.Layout}, Blocks.BlockCheck.{runs_until_reported, set_count}}
+use Rattle.ffs_volume.specs.{declared.Layout.Layout, Blocks.BlockCheck.set_count}
+use Rattle.ffs_volume.specs.Costs.RescanRuns.{runs_until_reported}
 use Rattle.ffs_image.specs.Device.{Device}
 use Rattle.ffs_maps.specs.Bits.{bits_of}
 use Rattle.ffs_walk.specs.{Windows.KeepsBlocks, declared.{blocks.Blocks.Blocks, kept_runs.KeptRun.KeptRun}}

@@ -2,7 +2,8 @@
 -- how many of their offers are kept, says `KeptRuns` of ffs_walk.
 use Rattle.std.specs.{List.{flat_map, range_with_len}, Prelude.{◌≡◌, ◌<◌, ◌≤◌, ℕ, ◌+◌, ◌-◌, ◌^◌, List, [], ◌∷◌}}
 use Rattle.std.specs.Prelude.{length, map, Result, OnErr, OnOk, slice_index}
-use Rattle.ffs_volume.specs.Blocks.BlockCheck.{first_offer_lines, runs_until_reported}
+use Rattle.ffs_volume.specs.Blocks.BlockCheck.{first_offer_lines}
+use Rattle.ffs_volume.specs.Costs.RescanRuns.{runs_until_reported}
 use Rattle.ffs_volume.specs.Blocks.KeptOffers.{Offer, kept_in_steps, offer_of}
 use Rattle.ffs_volume.specs.{Blocks.{Inodes.inode_of, Steps.steps_of}, Encodings.{Replay.fresh_replay, Notes.cut_in}}
 use Rattle.ffs_volume.specs.Blocks.Claims.{Claims, after_owner, all_claims, at_next_inode, no_claims}

@@ -15,6 +15,7 @@ use Rattle.ffs_workspace.specs.{Ready.CanRead, declared.workspace.Workspace.Work
 use Rattle.ffs_finding.specs.Claims.{WithBlocks}
 use Rattle.ffs_check.specs.Moment.{Moment}
 use Rattle.ffs_finding.specs.{Outcome.Finds, declared.owner.Sought.Sought}
+use Rattle.ffs_layout.specs.HasVolume.{HasVolume}
 
 -- ---- the map of a group
 -- what the map of its group says of the fragment f can be printed: the volume has f, and its group block is there
@@ -25,7 +26,7 @@ pub record CanPrintMap (v : Layout) (block : List ℕ) (f : ℕ) : Type 0 where
 -- the group block of the fragment f can be read into a window
 pub record CanReadMap (v : Layout) (d : Device) (window : Window) (f : ℕ) : Type 0 where
   pub below : f < v.size
-  pub volume : v.size * v.fsize ≤ d.size
+  pub volume : HasVolume v d
   pub room : vec_len window.buffer ≡ v.bsize
   pub holds : WindowHolds d.contents window
 
