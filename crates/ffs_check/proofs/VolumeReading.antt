@@ -2,7 +2,7 @@
 use Rattle.std.proofs.Common.{ℕ, ◌≡◌, ◌+◌, ◌*◌, ◌≤◌, Bool, true, false, List, [], ◌∷◌, ◌++◌, Some, None, ap, arith}
 use Rattle.std.proofs.{Common.{refl, if◌then◌else◌, inl, inr, length}, lemmas.{Bool.cases_Bool, List.length-append}}
 use Rattle.std.{proofs.lemmas.List.length-map, specs.List.range_with_len}
-use Rattle.ffs_volume.{proofs.{Potentials.offers_keep, RunBounds.runs_bounded}, specs.Blocks.BlockCheck.has_rescan}
+use Rattle.ffs_volume.{proofs.{Potentials.offers_keep, RunBounds.runs_bounded}, specs.Blocks.BlockCheck.has_dup_lines}
 use Rattle.ffs_volume.specs.Blocks.{Owners.{Owner, owners_of}, Claims.{Claims, after_owner, after_owners, after_run}}
 use Rattle.ffs_volume.specs.Blocks.Claims.{after_step, after_steps, at_next_inode, is_open, no_claims, all_claims}
 use Rattle.ffs_volume.specs.{Laws.Geometry.IsAcceptedLayout, Report.{Memory.runs_limit, Reads.{phase_reads, table_blocks}}}
@@ -112,6 +112,6 @@ volume_few s bytes g =
     let scan : volume_scan_reads s.layout bytes ≤ sweep_reads s.layout =
     omega (arith, tables_few s.layout g, indirect_few s.layout bytes g) in
     let again : rescan_reads s.layout bytes ≤ sweep_reads s.layout =
-    few_of (has_rescan s.layout (owners_of s.layout bytes)) (volume_scan_reads s.layout bytes) 0 _ scan (omega arith) in
+    few_of (has_dup_lines s.layout (owners_of s.layout bytes)) (volume_scan_reads s.layout bytes) 0 _ scan (omega arith) in
     let later = later_among (continues_after_root (volume_of s.layout bytes)) bytes s in
     omega (arith, indirect_few s.layout bytes g, again, directories_few s.layout bytes g, later, names_among bytes s)

@@ -5,7 +5,7 @@ use Rattle.ffs_image.specs.Device.{Device}
 use Rattle.ffs_report.specs.declared.fault.RunFault.{RunFault}
 use Rattle.ffs_image.specs.Known.{ForBytes, IsContents}
 use Rattle.ffs_volume.specs.{declared.Layout.Layout, Blocks.Owners.owners_of}
-use Rattle.ffs_volume.specs.Blocks.BlockCheck.{has_rescan}
+use Rattle.ffs_volume.specs.Blocks.BlockCheck.{has_dup_lines}
 use Rattle.ffs_volume.specs.Costs.RescanRuns.{rescan_runs}
 use Rattle.ffs_volume.specs.{Report.Reads.sweep_reads}
 use Rattle.ffs_volume.specs.{Report.Whole.run_count, Costs.VolumeReads.rescan_reads}
@@ -19,14 +19,14 @@ WithLeftByPhase1 v d w bytes = IsContents d.contents bytes × IsLeftByPhase1 v b
 -- what `has_dups` and `runs` answer after a check of a workspace: whether phase 1 has a DUP line, and how
 -- many Runs phases 1 and 1b looked at. Where phase 1b isn't run its count is as it was before
 pub record HasAnswers (v : Layout) (bytes : List ℕ) (old new : Workspace) : Type 0 where
-  pub has_dups : new.has_dups ≡ has_rescan v (owners_of v bytes)
+  pub has_dups : new.has_dups ≡ has_dup_lines v (owners_of v bytes)
   pub seen : new.runs_seen ≡ run_count v bytes
-  pub again : new.runs_again ≡ (if has_rescan v (owners_of v bytes) then rescan_runs v bytes else old.runs_again)
+  pub again : new.runs_again ≡ (if has_dup_lines v (owners_of v bytes) then rescan_runs v bytes else old.runs_again)
 
 -- what `has_dups` answers after a check that may have been cut short: what it answered before, or whether phase 1
 -- has a DUP line
 abbrev pub AnswersDups : Layout → List ℕ → (old new : Workspace) → Type 0
-AnswersDups v bytes old new = (new.has_dups ≡ old.has_dups) ⊎ (new.has_dups ≡ has_rescan v (owners_of v bytes))
+AnswersDups v bytes old new = (new.has_dups ≡ old.has_dups) ⊎ (new.has_dups ≡ has_dup_lines v (owners_of v bytes))
 
 -- what a workspace holds and answers after `rescan`, which is phase 1b, if phase 1 has a DUP line, else nothing: what
 -- `has_dups` answers and the count of phase 1's Runs stay, nothing is surveyed yet, and it is ready for the next phase

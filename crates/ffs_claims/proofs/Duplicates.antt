@@ -7,7 +7,7 @@ use Rattle.std.{proofs.lemmas.List.{length-replicate, Folds.list_any-append, Sum
 use Rattle.std.specs.List.{range_with_len}
 use Rattle.ffs_volume.proofs.{OwnerLaws.before_next, Potentials.{cond_holds, in_range_below}}
 use Rattle.ffs_volume.specs.Blocks.BlockCheck.{class_lines, owner_lines, lines_of_owners, phase1_lines, phase1b_lines}
-use Rattle.ffs_volume.specs.Blocks.BlockCheck.{is_dup_line, has_rescan, blames, first_offer_lines, is_marked, set_count}
+use Rattle.ffs_volume.specs.Blocks.BlockCheck.{is_dup_line, has_dup_lines, blames, first_offer_lines, is_marked, set_count}
 use Rattle.ffs_volume.specs.Blocks.Claims.{Claims, no_claims, at_next_inode, is_open, is_set, after_owner, after_owners}
 use Rattle.ffs_volume.specs.Blocks.Claims.{lines_of_steps, after_offer, after_offers, after_run, after_step, all_claims}
 use Rattle.ffs_volume.specs.Blocks.Claims.{after_steps, offer_lines, lines_of_offers, run_lines, step_lines, has_blame}
@@ -189,7 +189,7 @@ none_set (suc n) = none_set n
 
 -- there is a Dup line exactly where a fragment is marked
 pub rescan_is : (v : Layout) (image : List ℕ) →
-    any_set (all_claims v image).duplicates ≡ has_rescan v (owners_of v image)
+    any_set (all_claims v image).duplicates ≡ has_dup_lines v (owners_of v image)
 unfolding all_claims phase1_lines no_claims
 rescan_is v image =
     let all = owners_dups v (no_claims v) (owners_of v image) (length-replicate v.size false) in
@@ -211,7 +211,7 @@ none_first bits [] e = refl
 none_first bits (o ∷ os) e = grind (arith, none_clear, none_first bits os)
 
 -- where there is no Dup line, phase 1 leaves what phase 1b would
-pub no_rescan : (v : Layout) (image : List ℕ) (w : Workspace) → has_rescan v (owners_of v image) ≡ false →
+pub no_rescan : (v : Layout) (image : List ℕ) (w : Workspace) → has_dup_lines v (owners_of v image) ≡ false →
     HoldsPhase1 v image w → HoldsBlockCheck v image w
 unfolding all_claims phase1b_lines
 no_rescan v image w none h = grind (arith, counts_unsurveyed, marked_total, none_first, rescan_is)

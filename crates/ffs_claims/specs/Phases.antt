@@ -3,7 +3,7 @@ use Rattle.std.specs.Prelude.{◌≡◌, ◌<◌, ◌≤◌, ◌+◌, ◌-◌, �
 use Rattle.std.specs.Prelude.{if◌then◌else◌, nat_lt, slice_index}
 use Rattle.std.specs.Int.{div_ceil}
 use Rattle.ffs_image.specs.Device.{Device}
-use Rattle.ffs_volume.specs.{declared.Layout.Layout, Blocks.{BlockCheck.has_rescan, Owners.owners_of}}
+use Rattle.ffs_volume.specs.{declared.Layout.Layout, Blocks.{BlockCheck.has_dup_lines, Owners.owners_of}}
 use Rattle.ffs_volume.specs.Costs.RescanRuns.{rescan_runs}
 use Rattle.ffs_volume.specs.Blocks.{BlockCheck.first_offer_lines, Claims.no_claims, KeptOffers.{Offer, kept_in_owners}}
 use Rattle.ffs_volume.specs.Blocks.KeptSteps.{claims_before}
@@ -22,7 +22,7 @@ use Rattle.ffs_claims.specs.Reporting.{OffersReported, ReportedInPart}
 -- a DUP line, which is just where phase 1b is to run. It has counted each Run that is seen
 pub record IsLeftByPhase1 (v : Layout) (bytes : List ℕ) (w : Workspace) : Type 0 where
   pub holds : HoldsPhase1 v bytes w
-  pub has_dups : w.has_dups ≡ has_rescan v (owners_of v bytes)
+  pub has_dups : w.has_dups ≡ has_dup_lines v (owners_of v bytes)
   pub count : w.runs_seen ≡ run_count v bytes
 
 -- phase 1 was cut short: it has found what it finds of the inodes before a number, and nothing of others. The map

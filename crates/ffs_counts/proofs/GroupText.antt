@@ -14,7 +14,7 @@ use Rattle.ffs_groups.{specs.Inodes.class_in, proofs.Sums.sum_more}
 use Rattle.ffs_report.{specs.Progress.{Progress, Said, Stopped, Says}, proofs.Reports.{says_then, stopped_after}}
 use Rattle.ffs_report.proofs.Reports.{stopped_more}
 use Rattle.ffs_workspace.specs.{declared.workspace.Workspace.Workspace, Holds.HoldsBlockCheck}
-use Rattle.ffs_counts.specs.{declared.totals.Totals.Totals, Once.reported_after, Totals.{AreTotals, AreUpTo, total_of}}
+use Rattle.ffs_counts.specs.{declared.totals.Totals.Totals, Once.reported_after, Totals.{AreTotals, AreSumsOf, total_of}}
 use Rattle.ffs_counts.{specs.Totals.with_counts, proofs.Classes.by_kinds}
 
 once_append : (t : AlreadyReported) (xs ys : List BlockMessage) → reported_once t (xs ++ ys) ≡ reported_once t xs
@@ -110,6 +110,6 @@ pub counts_held : (v : Layout) (old new : Workspace) (kinds : List ℕ) (c : ℕ
 counts_held v old new kinds c counts e same is = grind arith
 
 -- one more count of below 2^32 was added to each
-pub up_next : (n : ℕ) (old new : Totals) (s : SummaryCounts) → AreUpTo n old → new ≡ with_counts old s →
-    s.dirs < 2 ^ 32 → s.blocks < 2 ^ 32 → s.inodes < 2 ^ 32 → s.fragments < 2 ^ 32 → AreUpTo (n + 1) new
+pub up_next : (n : ℕ) (old new : Totals) (s : SummaryCounts) → AreSumsOf n old → new ≡ with_counts old s →
+    s.dirs < 2 ^ 32 → s.blocks < 2 ^ 32 → s.inodes < 2 ^ 32 → s.fragments < 2 ^ 32 → AreSumsOf (n + 1) new
 up_next n old new s up e d b i f = grind arith

@@ -25,7 +25,7 @@ pub record AreTotals (v : Layout) (free : ℕ → Bool) (class : ℕ → Class) 
   pub fragments : t.fragments ≡ sum_by (λ c. (right_group_counts v free class c).fragments) (range_with_len 0 n)
 
 -- n counts below 2^32 were added to each
-pub record AreUpTo (n : ℕ) (t : Totals) : Type 0 where
+pub record AreSumsOf (n : ℕ) (t : Totals) : Type 0 where
   pub dirs : t.dirs ≤ n * 4294967295
   pub blocks : t.blocks ≤ n * 4294967295
   pub inodes : t.inodes ≤ n * 4294967295

@@ -2,7 +2,7 @@
 
 ghost use Rattle.std.specs.Prelude.{◌≡◌, ◌-◌, ◌^◌};
 ghost use Rattle.ffs_volume.specs.Groups.Records.{has_totals};
-ghost use Rattle.ffs_counts.specs.Totals.{AreUpTo, total_of, with_counts};
+ghost use Rattle.ffs_counts.specs.Totals.{AreSumsOf, total_of, with_counts};
 
 use crate::numbers::is_count_of;
 use ffs_groups::SummaryCounts;
@@ -35,7 +35,7 @@ impl Totals {
 
     /// Adds the counts of a group.
     pub fn add(&mut self, summary: &SummaryCounts)
-        requires { AreUpTo (2 ^ 32 - 1) self.old }
+        requires { AreSumsOf (2 ^ 32 - 1) self.old }
         ensures { self.new ≡ with_counts self.old summary.now }
     {
         self.dirs += u64::from(summary.dirs);

@@ -30,16 +30,16 @@ target_lines Lost sector image s = lost_lines s.layout image
 target_lines (Owner fragment) sector image s = lines_of_fragment s.layout image fragment
 
 -- a line of the target is a defect
-abbrev pub finds_defects : Target → Bool
-finds_defects (Inode number) = false
-finds_defects Fields = true
-finds_defects Lost = true
-finds_defects (Owner fragment) = false
+abbrev pub lines_are_defects : Target → Bool
+lines_are_defects (Inode number) = false
+lines_are_defects Fields = true
+lines_are_defects Lost = true
+lines_are_defects (Owner fragment) = false
 
 -- a line of the command is a defect
-abbrev pub command_finds_defects : Command → Bool
-command_finds_defects Copies = false
-command_finds_defects (InVolume target sector) = finds_defects target
+abbrev pub command_lines_are_defects : Command → Bool
+command_lines_are_defects Copies = false
+command_lines_are_defects (InVolume target sector) = lines_are_defects target
 
 -- the superblock of the command's volume is accepted in these bytes; `copies` asks for no volume
 abbrev pub IsAcceptedIn : Command → (image : List ℕ) → Type 0
@@ -156,7 +156,7 @@ ReadsForCommand (InVolume target sector) d before after =
 -- a command was carried out; the line of a fault is still to come
 pub record AnswersCommand (command : Command) (old new : Moment) (before after : Account)
     (result : Result Bool FindFault) : Type 0 where
-  pub answer : AnswersWith (command_finds_defects command) (IsContents old.image.contents) (command_lines command) old
+  pub answer : AnswersWith (command_lines_are_defects command) (IsContents old.image.contents) (command_lines command) old
       new result
   pub grounds : GroundsOf result (ForContents old.image.contents (IsAcceptedIn command))
       (IsRefusedBy command old.image new.image)
@@ -177,7 +177,7 @@ pub record FindsCommand (command : Command) (old new : Moment) (before after : A
 -- how often the image was read
 pub record FindsTarget (target : Target) (sector : Option ℕ) (s : Superblock) (old new : Moment)
     (result : Result Bool FindFault) : Type 0 where
-  pub answer : AnswersWith (finds_defects target) (WithSuper old.image sector s) (λ b. target_lines target sector b s)
+  pub answer : AnswersWith (lines_are_defects target) (WithSuper old.image sector s) (λ b. target_lines target sector b s)
       old new result
   pub grounds : GroundsOf result ⊤ (λ fault. ⊥) (IsSectorFor target sector s) ⊤
   pub reads : new.reads ≤ old.reads + target_reads target s.layout

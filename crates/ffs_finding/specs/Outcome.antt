@@ -49,13 +49,13 @@ pub record Finds {T : Type 0} (knows : List ℕ → Type 0) (all : List ℕ → 
   pub text : PrintsLines knows all old.out new.out result
 
 -- the answer is whether a line was printed
-abbrev pub SaysWhether : (knows : List ℕ → Type 0) → (all : List ℕ → List (List ℕ)) → (old new : Sink)
+abbrev pub AnswersWhether : (knows : List ℕ → Type 0) → (all : List ℕ → List (List ℕ)) → (old new : Sink)
     → (result : Result Bool RunFault) → PrintsLines knows all old new result → Type 0
-SaysWhether knows all old new (Ok any) printed = any ≡ any_line printed.lines
-SaysWhether knows all old new (Err fault) printed = ⊤
+AnswersWhether knows all old new (Ok any) printed = any ≡ any_line printed.lines
+AnswersWhether knows all old new (Err fault) printed = ⊤
 
 -- what a command leaves of its image, and what it prints; the answer is whether there is a line
 pub record FindsAny (knows : List ℕ → Type 0) (all : List ℕ → List (List ℕ)) (old new : Moment)
     (result : Result Bool RunFault) : Type 0 where
   pub found : Finds knows all old new result
-  pub any : SaysWhether knows all old.out new.out result found.text
+  pub any : AnswersWhether knows all old.out new.out result found.text

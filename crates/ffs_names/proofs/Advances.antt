@@ -90,12 +90,12 @@ pub record OnlyWalks (c c' : Chunks) : Type 0 where
   pub geometry : c'.walk.geometry ≡ c.walk.geometry
   pub keeping : c'.keeping ≡ c.keeping
   pub bytes_to_read : c'.bytes_to_read ≡ c.bytes_to_read
-  pub budget : c'.budget ≡ c.budget
+  pub chunks_left : c'.chunks_left ≡ c.chunks_left
   pub run_cursor : c'.run_cursor ≡ c.run_cursor
   pub runs : c'.runs ≡ c.runs
 
 pub only_walks : {c c' : Chunks} → c'.walk.geometry ≡ c.walk.geometry → c'.keeping ≡ c.keeping → c'.bytes_to_read ≡
-    c.bytes_to_read → c'.budget ≡ c.budget → c'.run_cursor ≡ c.run_cursor → c'.runs ≡ c.runs → OnlyWalks c c'
+    c.bytes_to_read → c'.chunks_left ≡ c.chunks_left → c'.run_cursor ≡ c.run_cursor → c'.runs ≡ c.runs → OnlyWalks c c'
 only_walks e k t n h r = grind arith
 
 pub same_walked : {c c' c'' : Chunks} → IsSame c c' → OnlyWalks c' c'' → IsSame c c''

@@ -51,5 +51,5 @@ all_taken v i b cut g =
 pub begins_at : {v : Layout} {i : Inode} {cut : ℕ} {c : Chunks} → IsAcceptedLayout v → c.walk.geometry.layout ≡ v → ((b
     : List ℕ) → steps_left b c.walk ≡ steps_of v i b) → c.keeping.cut ≡ cut → replay_in c.keeping ≡ fresh_replay → ((b :
     List ℕ) → cursor_chunks c.walk.geometry.layout b c.run_cursor ≡ []) → (i.size < 2 ^ 31 → c.bytes_to_read ≡
-    bytes_read i.size) → c.budget ≡ c.bytes_to_read / 512 → c.runs ≡ 0 → c.gap ≡ false → BeginsAt v i cut c
-begins_at {v = v} {i = i} {cut = cut} g layout steps is_cut fresh none bytes budget runs gap = grind (arith, all_taken)
+    bytes_read i.size) → c.chunks_left ≡ c.bytes_to_read / 512 → c.runs ≡ 0 → c.gap ≡ false → BeginsAt v i cut c
+begins_at {v = v} {i = i} {cut = cut} g layout steps is_cut fresh none bytes chunks_left runs gap = grind (arith, all_taken)

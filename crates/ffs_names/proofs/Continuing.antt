@@ -24,7 +24,7 @@ pub continues_more : {b : List ℕ} {c c' c'' : Chunks} {steps steps' steps'' : 
 continues_more h k = grind (arith, counts_more)
 
 pub same_here : (c : Chunks) → IsSame c c
-same_here c = record { geometry = refl; cut = refl; bytes_to_read = refl; budget = refl; runs = omega arith }
+same_here c = record { geometry = refl; cut = refl; bytes_to_read = refl; chunks_left = refl; runs = omega arith }
 
 pub same_more : {c c' c'' : Chunks} → IsSame c' c'' → IsSame c c' → IsSame c c''
 same_more k h = grind arith

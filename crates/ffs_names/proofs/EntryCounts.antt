@@ -10,7 +10,7 @@ use Rattle.ffs_names.specs.{Costs.{HoldsReading, to_read}, declared.chunks.Chunk
 
 -- the reads, and what is held, by whether the shape is right so far, and by the chunks
 abbrev pub may_by : Bool → Chunks → Bool
-may_by s c = s || nat_lt 0 c.budget
+may_by s c = s || nat_lt 0 c.chunks_left
 
 abbrev pub reads_by : List ℕ → Bool → Chunks → ℕ
 reads_by b s c = if may_by s c then to_read b c else 0
@@ -44,13 +44,13 @@ may_none s n e = omega (arith, ltb-false 0 n (or_parts s (nat_lt 0 n) e).1)
 
 -- a reading of entries continues by its chunks
 pub continues_by_chunks : {T : Type 0} (b : List ℕ) (s s' : Bool) (c c' : Chunks) (blocks blocks' : Blocks) (w w' : Window)
-    (reads reads' : ℕ) (result : Result T ImageFault) → (s' ≡ true → s ≡ true) → c'.budget ≤ c.budget
-    → (c.budget ≡ 0 → reads' ≤ reads)
+    (reads reads' : ℕ) (result : Result T ImageFault) → (s' ≡ true → s ≡ true) → c'.chunks_left ≤ c.chunks_left
+    → (c.chunks_left ≡ 0 → reads' ≤ reads)
     → (HoldsReading blocks w c → TakesReads reads reads' (to_read b c) (to_read b c') (HoldsReading blocks' w' c') result)
     → HoldsBy blocks w s c → TakesReads reads reads' (reads_by b s c) (reads_by b s' c') (HoldsBy blocks' w' s' c') result
 continues_by_chunks b s s' c c' blocks blocks' w w' reads reads' result still less none took held =
     takes_where (may_by s c) (may_by s' c') reads reads' (to_read b c) (to_read b c') (HoldsReading blocks' w' c') result
-    (may_still s s' c.budget c'.budget still less) (λ e. none (may_none s c.budget e)) (λ e. took (held e))
+    (may_still s s' c.chunks_left c'.chunks_left still less) (λ e. none (may_none s c.chunks_left e)) (λ e. took (held e))
 
 -- so does a look for holes, of a directory whose shape is right so far
 pub looks_on : {T : Type 0} (b : List ℕ) (s : Bool) (c c' : Chunks) (blocks blocks' : Blocks) (w w' : Window)

@@ -107,7 +107,7 @@ ended_held s c e blocks w = grind arith
 
 -- nor is a chunk or a hole
 pub ended_rest : (b : List ℕ) (c : Chunks) → IsEnded c → rest b c ≡ []
-ended_rest b c e = rw e.budget refl
+ended_rest b c e = rw e.chunks_left refl
 
 pub ended_gap : (b : List ℕ) (c : Chunks) → IsEnded c → false ≡ (c.gap || gap_left b c)
 ended_gap b c e = rw (e.gap, over_rest b c.walk e.walk) refl

@@ -33,11 +33,11 @@ pub cursor_step : (v : Layout) (b : List ℕ) (cursor : RunCursor) (rest : List 
 cursor_step v b cursor rest more = rw (range_step cursor.next cursor.count more) refl
 
 -- of at most so many chunks
-pub some_taken : (budget : ℕ) (x : Chunk) (rest : List Chunk) → 0 < budget →
-    take budget (x ∷ rest) ≡ x ∷ take (budget - 1) rest
+pub some_taken : (chunks_left : ℕ) (x : Chunk) (rest : List Chunk) → 0 < chunks_left →
+    take chunks_left (x ∷ rest) ≡ x ∷ take (chunks_left - 1) rest
 some_taken zero x rest some = absurd (omega arith)
 some_taken (suc n) x rest some = let less : suc n - 1 ≡ n = omega arith in rw less refl
 
-pub none_taken : (budget : ℕ) (rest : List Chunk) → rest ≡ [] → take budget rest ≡ []
+pub none_taken : (chunks_left : ℕ) (rest : List Chunk) → rest ≡ [] → take chunks_left rest ≡ []
 none_taken zero rest e = refl
 none_taken (suc n) rest e = rw e refl

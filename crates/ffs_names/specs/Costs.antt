@@ -60,7 +60,7 @@ pub record SeesRun (old new : Chunks) (start len : ℕ) (block : Option ℕ) : T
 
 -- a chunk may still come, or a hole may still be looked for
 abbrev pub may_read : Entries → Bool
-may_read r = r.right_so_far || nat_lt 0 r.chunks.budget
+may_read r = r.right_so_far || nat_lt 0 r.chunks.chunks_left
 
 -- at most how many reads a reading of entries still takes
 abbrev pub reads_for_entries : List ℕ → Entries → ℕ

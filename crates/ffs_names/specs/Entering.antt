@@ -16,7 +16,7 @@ to_come b r = left_in_chunk r ++ flat_map roled_chunk (rest b r.chunks)
 
 -- at most how many entries are to come, whatever the image holds: 64 of 8 bytes for each chunk
 abbrev pub most_to_come : Entries → ℕ
-most_to_come r = 64 * r.chunks.budget + (DIRBLKSIZ - r.place) / DIRENT_HEADER
+most_to_come r = 64 * r.chunks.chunks_left + (DIRBLKSIZ - r.place) / DIRENT_HEADER
 
 -- the name of the entry that it gave last
 abbrev pub last_name : Entries → List ℕ

@@ -15,35 +15,35 @@ use Rattle.ffs_names.specs.declared.{chunks.Chunks.Chunks, entries.Entries.Entri
 -- makes one is I.Image: what the type of the image gives to contracts.
 
 -- a moment at which a Run is read into a window
-pub record RunReading : Type 0 where
+pub record WindowMoment : Type 0 where
   pub image : Device
   pub reads : ℕ
   pub window : Window
 
-abbrev pub run_reading : {S : Type 0} → Ghosts S → S → Window → RunReading
-run_reading I image window = record { image = I.device image; reads = I.reads image; window = window }
+abbrev pub window_moment : {S : Type 0} → Ghosts S → S → Window → WindowMoment
+window_moment I image window = record { image = I.device image; reads = I.reads image; window = window }
 
 -- a moment of a walk over the blocks of a directory
-pub record DirWalk : Type 0 where
+pub record WalkMoment : Type 0 where
   pub image : Device
   pub reads : ℕ
   pub blocks : Blocks
   pub chunks : Chunks
 
-abbrev pub dir_walk : {S : Type 0} → Ghosts S → S → Blocks → Chunks → DirWalk
-dir_walk I image blocks chunks =
+abbrev pub walk_moment : {S : Type 0} → Ghosts S → S → Blocks → Chunks → WalkMoment
+walk_moment I image blocks chunks =
     record { image = I.device image; reads = I.reads image; blocks = blocks; chunks = chunks }
 
 -- a moment of a reading of a directory, by chunks or by entries: `window` is that of its chunks
-pub record DirReading (R : Type 0) : Type 0 where
+pub record ReadingMoment (R : Type 0) : Type 0 where
   pub image : Device
   pub reads : ℕ
   pub blocks : Blocks
   pub window : Window
   pub reading : R
 
-abbrev pub dir_reading : {S R : Type 0} → Ghosts S → S → Blocks → Window → R → DirReading R
-dir_reading I image blocks window reading = record {
+abbrev pub reading_moment : {S R : Type 0} → Ghosts S → S → Blocks → Window → R → ReadingMoment R
+reading_moment I image blocks window reading = record {
   image = I.device image;
   reads = I.reads image;
   blocks = blocks;
@@ -54,7 +54,7 @@ dir_reading I image blocks window reading = record {
 -- what a call leaves that reads a chunk of a Run: a window with the room that it had, which holds
 -- what the image gives, and the Run too, where a chunk of it is left. The Run is read once, and where
 -- another reading has used the window since, once more in each call
-pub record LeavesRun {T : Type 0} (cursor : RunCursor) (old new : RunReading) (result : Result T ImageFault) : Type 0
+pub record LeavesRun {T : Type 0} (cursor : RunCursor) (old new : WindowMoment) (result : Result T ImageFault) : Type 0
   where
     pub room : vec_len new.window.buffer ≡ vec_len old.window.buffer
     pub holds : WindowHolds new.image.contents new.window
@@ -72,7 +72,7 @@ ReadsBySteps reads reads' old new more =
 
 -- what a call leaves that moves on to a Run, or looks for holes: it can walk on, and only reads the
 -- image, at most as often as the reading may
-pub record LeavesWalk {T : Type 0} (old new : DirWalk) (result : Result T ImageFault) : Type 0 where
+pub record LeavesWalk {T : Type 0} (old new : WalkMoment) (result : Result T ImageFault) : Type 0 where
   pub same : IsSame old.chunks new.chunks
   pub ready : CanWalkDir old.chunks.walk.geometry.layout new.image new.blocks
   pub read : ReadAfter old.image new.image result
@@ -81,14 +81,14 @@ pub record LeavesWalk {T : Type 0} (old new : DirWalk) (result : Result T ImageF
   pub any : ReadsBySteps old.reads new.reads old.chunks new.chunks 1
 
 -- a call that moves on to a Run, and finds one, reads for the steps of the walk alone
-abbrev pub ReadsForSteps : (old new : DirWalk) → Result Bool ImageFault → Type 0
+abbrev pub ReadsForSteps : (old new : WalkMoment) → Result Bool ImageFault → Type 0
 ReadsForSteps old new result =
     IfOk result (λ found. found ≡ true → ReadsBySteps old.reads new.reads old.chunks new.chunks 0)
 
 -- a call looks for a hole among the kept steps of a directory: those that a reading of its chunks has
 -- seen, and those that are left. Asked again it answers the same, and no chunk comes where none was left,
 -- nor after a fault
-pub record LooksForGap (old new : DirWalk) (result : Result Bool ImageFault) : Type 0 where
+pub record LooksForGap (old new : WalkMoment) (result : Result Bool ImageFault) : Type 0 where
   pub gap : IfOk result (λ g. ForContents old.image.contents (λ b. g ≡ (old.chunks.gap || gap_left b old.chunks)))
   pub again : IfOk result (λ g. ForContents old.image.contents (λ b. g ≡ (new.chunks.gap || gap_left b new.chunks)))
   pub none : OnOk result (ForContents old.image.contents (λ b. rest b old.chunks ≡ [] → rest b new.chunks ≡ []))
@@ -101,7 +101,7 @@ abbrev pub StaysUngiven : (old new : List ℕ) → Result (Option ℕ) ImageFaul
 StaysUngiven old new result = MatchResult result (λ o. IfNone o (new ≡ old)) (λ _. new ≡ old)
 
 -- what a call leaves that reads a chunk
-pub record LeavesChunks {T : Type 0} (old new : DirReading Chunks) (result : Result T ImageFault) : Type 0 where
+pub record LeavesChunks {T : Type 0} (old new : ReadingMoment Chunks) (result : Result T ImageFault) : Type 0 where
   pub same : IsSame old.reading new.reading
   pub runs : CountsRuns old.image.contents old.reading new.reading result
   pub ready : CanReadChunks old.reading.walk.geometry.layout new.image new.blocks new.window
@@ -111,7 +111,7 @@ pub record LeavesChunks {T : Type 0} (old new : DirReading Chunks) (result : Res
 -- what a call leaves that gives the next chunk, if there is one: where that is in the image, how many Runs
 -- were looked at, and how many chunks may still come. These are one fewer after a chunk and none after a
 -- fault, and where none may come nothing is read. One read is for the chunk, or for the walk where it ends
-pub record NextChunkLeaves (old new : DirReading Chunks) (chunk : List ℕ) (result : Result (Option ℕ) ImageFault) : Type 0
+pub record NextChunkLeaves (old new : ReadingMoment Chunks) (chunk : List ℕ) (result : Result (Option ℕ) ImageFault) : Type 0
   where
     pub geometry : new.reading.walk.geometry ≡ old.reading.walk.geometry
     pub ready : CanReadChunks old.reading.walk.geometry.layout new.image new.blocks new.window
@@ -120,20 +120,20 @@ pub record NextChunkLeaves (old new : DirReading Chunks) (chunk : List ℕ) (res
         IsGivenChunk old.reading.walk.geometry.layout old.image.contents new.reading.run_cursor chunk))
     pub steps : IfOk result (λ o. IfSome o (λ _. StepsOn old.reading.run_cursor new.reading.run_cursor))
     pub runs : CountsRuns old.image.contents old.reading new.reading result
-    pub budget : MatchResult result (λ o. MatchOption o (new.reading.budget ≡ old.reading.budget)
-        (λ _. new.reading.budget + 1 ≡ old.reading.budget)) (λ _. new.reading.budget ≡ 0)
-    pub over : old.reading.budget ≡ 0 → (result ≡ Ok None) × (new.reads ≤ old.reads)
+    pub chunks_left : MatchResult result (λ o. MatchOption o (new.reading.chunks_left ≡ old.reading.chunks_left)
+        (λ _. new.reading.chunks_left + 1 ≡ old.reading.chunks_left)) (λ _. new.reading.chunks_left ≡ 0)
+    pub over : old.reading.chunks_left ≡ 0 → (result ≡ Ok None) × (new.reads ≤ old.reads)
     pub any : ReadsBySteps old.reads new.reads old.reading new.reading 1
 
 -- at most how many steps of its walk and how many chunks a reading has left, whatever the image holds
 abbrev pub most_left : Chunks → ℕ
-most_left c = most_steps_left c.walk + c.budget
+most_left c = most_steps_left c.walk + c.chunks_left
 
 -- what a call leaves that gives the next entry, if there is one: that is in a chunk of the image, and fewer
 -- may come after it. Each Run that was looked at is counted. Whatever the image and its windows hold, at most
 -- one read is for each step of the walk and for each chunk that the call takes, and one more where it gives
 -- no entry
-pub record LeavesEntries (old new : DirReading Entries) (result : Result (Option EntryHead) ImageFault) : Type 0 where
+pub record LeavesEntries (old new : ReadingMoment Entries) (result : Result (Option EntryHead) ImageFault) : Type 0 where
   pub geometry : new.reading.chunks.walk.geometry ≡ old.reading.chunks.walk.geometry
   pub ready : CanReadChunks old.reading.chunks.walk.geometry.layout new.image new.blocks new.window
   pub read : ReadAfter old.image new.image result
@@ -146,11 +146,11 @@ pub record LeavesEntries (old new : DirReading Entries) (result : Result (Option
 
 -- what a call leaves that walks on, but for how often it reads an image of known bytes: what no reading
 -- changes, how many chunks may still come, none after a fault, and how many Runs were looked at
-pub record LeavesBlocks {T : Type 0} (old new : DirWalk) (result : Result T ImageFault) : Type 0 where
+pub record LeavesBlocks {T : Type 0} (old new : WalkMoment) (result : Result T ImageFault) : Type 0 where
   pub geometry : new.chunks.walk.geometry ≡ old.chunks.walk.geometry
   pub cut : new.chunks.keeping.cut ≡ old.chunks.keeping.cut
   pub bytes_to_read : new.chunks.bytes_to_read ≡ old.chunks.bytes_to_read
-  pub budget : MatchResult result (λ _. new.chunks.budget ≡ old.chunks.budget) (λ _. new.chunks.budget ≡ 0)
+  pub chunks_left : MatchResult result (λ _. new.chunks.chunks_left ≡ old.chunks.chunks_left) (λ _. new.chunks.chunks_left ≡ 0)
   pub runs : CountsRuns old.image.contents old.chunks new.chunks result
   pub ready : CanWalkDir old.chunks.walk.geometry.layout new.image new.blocks
   pub read : ReadAfter old.image new.image result

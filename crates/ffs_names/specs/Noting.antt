@@ -27,7 +27,7 @@ pub record CanNote (parents words : Vec ℕ Global) (p place : ℕ) : Type 0 whe
 
 -- a moment at which chunks of a directory are noted: the image, how often it was read by then, its windows,
 -- the reading of the chunks, and the words that have the places
-pub record ChunkNoting : Type 0 where
+pub record NotingMoment : Type 0 where
   pub image : Device
   pub reads : ℕ
   pub windows : Windows
@@ -35,12 +35,12 @@ pub record ChunkNoting : Type 0 where
   pub words : Vec ℕ Global
 
 -- the moment at which these are so. I is what the type of the image gives to contracts: I.Image in a contract
-abbrev pub chunk_noting : {S : Type 0} → Ghosts S → S → Windows → Chunks → Vec ℕ Global → ChunkNoting
-chunk_noting I image windows chunks words =
+abbrev pub noting_moment : {S : Type 0} → Ghosts S → S → Windows → Chunks → Vec ℕ Global → NotingMoment
+noting_moment I image windows chunks words =
     record { image = I.device image; reads = I.reads image; windows = windows; chunks = chunks; words = words }
 
 -- the chunks of p can be read, of which none was given yet, and noted
-pub record CanNoteChunks (parents : Vec ℕ Global) (p : ℕ) (m : ChunkNoting) : Type 0 where
+pub record CanNoteChunks (parents : Vec ℕ Global) (p : ℕ) (m : NotingMoment) : Type 0 where
   pub ready : CanReadChunks m.chunks.walk.geometry.layout m.image m.windows.blocks m.windows.current
   pub first : m.chunks.run_cursor.next ≡ 0
   pub dir : 0 < p
@@ -133,7 +133,7 @@ pub record HoldsPlaces (v : Layout) (b : List ℕ) (w : Workspace) : Type 0 wher
 
 -- what a call leaves that notes the chunks of p that are to come: the other windows are as they were, only
 -- children of p are noted, in as many words, and the image is read at most as often as these chunks ask for
-pub record NotingChunksLeaves {T : Type 0} (parents : Vec ℕ Global) (p : ℕ) (old new : ChunkNoting)
+pub record NotingChunksLeaves {T : Type 0} (parents : Vec ℕ Global) (p : ℕ) (old new : NotingMoment)
     (result : Result T ImageFault) : Type 0 where
   pub geometry : new.chunks.walk.geometry ≡ old.chunks.walk.geometry
   pub ready : CanReadChunks old.chunks.walk.geometry.layout new.image new.windows.blocks new.windows.current

@@ -21,7 +21,7 @@ all_chunks b c = cursor_chunks c.walk.geometry.layout b c.run_cursor ++ chunks_a
 
 -- the chunks that a reading has still to give, of an image of these bytes
 abbrev pub rest : List ℕ → Chunks → List Chunk
-rest b c = take c.budget (all_chunks b c)
+rest b c = take c.chunks_left (all_chunks b c)
 
 -- the Runs that a reading has still to look at, of the steps to come
 abbrev pub runs_after : Chunks → List Step → ℕ
@@ -46,7 +46,7 @@ pub record HasSeenAll (b : List ℕ) (c : Chunks) : Type 0 where
 pub record IsEnded (c : Chunks) : Type 0 where
   pub walk : IsOver c.walk
   pub cursor : c.run_cursor.next ≡ c.run_cursor.count
-  pub budget : c.budget ≡ 0
+  pub chunks_left : c.chunks_left ≡ 0
   pub gap : c.gap ≡ false
 
 -- at most how many steps a reading has still to see and chunks of the current Run to give, whatever
@@ -65,7 +65,7 @@ pub record IsSame (old new : Chunks) : Type 0 where
   pub geometry : new.walk.geometry ≡ old.walk.geometry
   pub cut : new.keeping.cut ≡ old.keeping.cut
   pub bytes_to_read : new.bytes_to_read ≡ old.bytes_to_read
-  pub budget : new.budget ≡ old.budget
+  pub chunks_left : new.chunks_left ≡ old.chunks_left
   pub runs : old.runs ≤ new.runs
 
 -- a Run can be seen next: it has its length, the replay is open, and no chunk of the current Run is left
@@ -103,7 +103,7 @@ pub record CountsRuns {T : Type 0} (contents : Option (List ℕ)) (old new : Chu
 
 -- no chunk of a reading comes any more, and all else of it stays
 pub record StopsChunks (old new : Chunks) : Type 0 where
-  pub budget : new.budget ≡ 0
+  pub chunks_left : new.chunks_left ≡ 0
   pub walk : new.walk ≡ old.walk
   pub keeping : new.keeping ≡ old.keeping
   pub bytes_to_read : new.bytes_to_read ≡ old.bytes_to_read

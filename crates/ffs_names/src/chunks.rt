@@ -26,7 +26,7 @@ pub struct Chunks {
     /// At most how many chunks are still to come: no more than 2^22, as many chunks of 512 bytes as
     /// the most bytes that are read of a directory, 2^31, have. The size of the directory gives it;
     /// it ends the reading of any image, also of one that gives other bytes each time.
-    pub budget: u32,
+    pub chunks_left: u32,
     /// The chunks of the current Run.
     pub run_cursor: RunCursor,
     /// How many Runs were looked at: counted for its bound, which is proved.
@@ -34,7 +34,7 @@ pub struct Chunks {
     /// Whether a hole was seen.
     pub gap: bool,
     ghost bytes_to_read_small: { bytes_to_read ≤ 2 ^ 31 },
-    ghost few: { budget ≤ 2 ^ 22 },
+    ghost few: { chunks_left ≤ 2 ^ 22 },
     ghost cursor_fits: { CursorFits walk.geometry.layout run_cursor },
 }
 
@@ -42,7 +42,7 @@ impl Chunks {
     ghost use Rattle.ffs_names.specs.Costs.{to_read, BeginsByClass, BeginsReading, HoldsReading, SeesRun};
     ghost use Rattle.ffs_names.specs.RunCursors.{last_place, IsGivenChunk, StepsOn};
     ghost use Rattle.ffs_names.specs.Readings.{all_chunks, rest, CanSee, ContinuesTo, CountsNoMore, FindsNextRun, GivesChunk, HasSeenAll, IsEnded, IsSame};
-    ghost use Rattle.ffs_names.specs.Leaves.{dir_reading, dir_walk, LeavesChunks, NextChunkLeaves, LeavesWalk, ReadsForSteps, StaysUngiven};
+    ghost use Rattle.ffs_names.specs.Leaves.{reading_moment, walk_moment, LeavesChunks, NextChunkLeaves, LeavesWalk, ReadsForSteps, StaysUngiven};
 
     /// Looks at the Run that comes next in the walk: one of data that is kept whole, and is in
     /// range, becomes the current Run. Any other has no chunks.
@@ -78,10 +78,10 @@ impl Chunks {
             (λ _. ContinuesTo b self.old self.new) (λ _. CountsNoMore b self.old self.new)) }
         ensures found { IfOk result (FindsNextRun (I.device image.old).contents self.old self.new) }
         ensures fault { OnErr result ((b : List ℕ) → HasSeenAll b self.new) }
-        ensures leaves { LeavesWalk (dir_walk I.Image image.old blocks.old self.old)
-            (dir_walk I.Image image.new blocks.new self.new) result }
-        ensures steps { ReadsForSteps (dir_walk I.Image image.old blocks.old self.old)
-            (dir_walk I.Image image.new blocks.new self.new) result }
+        ensures leaves { LeavesWalk (walk_moment I.Image image.old blocks.old self.old)
+            (walk_moment I.Image image.new blocks.new self.new) result }
+        ensures steps { ReadsForSteps (walk_moment I.Image image.old blocks.old self.old)
+            (walk_moment I.Image image.new blocks.new self.new) result }
     {
         'steps: while self.run_cursor.next == self.run_cursor.count {
             if !self.keeping.is_replay_open() {
@@ -100,7 +100,7 @@ impl Chunks {
         Ok(true)
     }
 
-    /// Reads the next chunk, without regard to `budget`. It isn't inlined, so that a loop over the
+    /// Reads the next chunk, without regard to `chunks_left`. It isn't inlined, so that a loop over the
     /// entries of a chunk has the registers for itself.
     #[inline(never)]
     fn read<I: Image>(
@@ -124,8 +124,8 @@ impl Chunks {
             (I.reads image.new) (to_read b self.old) (to_read b self.new)
             (HoldsReading blocks.new window.new self.new) result) }
         ensures leaves { LeavesChunks
-            (dir_reading I.Image image.old blocks.old window.old self.old)
-            (dir_reading I.Image image.new blocks.new window.new self.new) result }
+            (reading_moment I.Image image.old blocks.old window.old self.old)
+            (reading_moment I.Image image.new blocks.new window.new self.new) result }
     {
         if !self.advance(image, blocks)? {
             return Ok(None);
@@ -155,7 +155,7 @@ impl Chunks {
             walk: Walk::of_class(geometry, inode, class),
             keeping: Keeping::start(cut),
             bytes_to_read,
-            budget: (bytes_to_read / DIRBLKSIZ as u64) as u32,
+            chunks_left: (bytes_to_read / DIRBLKSIZ as u64) as u32,
             run_cursor: RunCursor::empty(),
             runs: 0,
             gap: false,
@@ -173,7 +173,7 @@ impl Chunks {
         self.walk.restart(inode, class);
         self.keeping = Keeping::start(cut);
         self.bytes_to_read = bytes_to_read;
-        self.budget = (bytes_to_read / DIRBLKSIZ as u64) as u32;
+        self.chunks_left = (bytes_to_read / DIRBLKSIZ as u64) as u32;
         self.runs = 0;
         self.gap = false;
     }
@@ -187,7 +187,7 @@ impl Chunks {
     {
         self.walk = Walk::ended(&self.walk.geometry);
         self.run_cursor = RunCursor::empty();
-        (self.budget, self.gap) = (0, false);
+        (self.chunks_left, self.gap) = (0, false);
     }
 
     /// Reads the next chunk into `chunk`, and returns its place in the file, in bytes, and None
@@ -215,20 +215,20 @@ impl Chunks {
             (I.reads image.new) (to_read b self.old) (to_read b self.new)
             (HoldsReading blocks.new window.new self.new) result) }
         ensures leaves { NextChunkLeaves
-            (dir_reading I.Image image.old blocks.old window.old self.old)
-            (dir_reading I.Image image.new blocks.new window.new self.new) chunk.new result }
+            (reading_moment I.Image image.old blocks.old window.old self.old)
+            (reading_moment I.Image image.new blocks.new window.new self.new) chunk.new result }
     {
-        if self.budget == 0 {
+        if self.chunks_left == 0 {
             return Ok(None);
         }
         match self.read(image, blocks, window, chunk) {
             Ok(None) => Ok(None),
             Ok(Some(offset)) => {
-                self.budget -= 1;
+                self.chunks_left -= 1;
                 Ok(Some(offset))
             }
             Err(fault) => {
-                self.budget = 0;
+                self.chunks_left = 0;
                 Err(fault)
             }
         }

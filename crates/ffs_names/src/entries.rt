@@ -50,7 +50,7 @@ pub struct Entries {
     pub only_chunk: bool,
     ghost in_chunk: { place ≤ DIRBLKSIZ },
     ghost counted: { index ≤ place },
-    ghost few: { 64 * chunks.budget + (DIRBLKSIZ - place) / DIRENT_HEADER ≤ 2 ^ 28 },
+    ghost few: { 64 * chunks.chunks_left + (DIRBLKSIZ - place) / DIRENT_HEADER ≤ 2 ^ 28 },
     ghost name_in_chunk: { name_place + name_len ≤ DIRBLKSIZ },
     ghost only: { only_chunk ≡ true → IsEnded chunks },
     ghost same_order: { order ≡ chunks.walk.geometry.layout.order },
@@ -65,7 +65,7 @@ fn has_right_size(inode: &Inode) -> bool
 
 impl Entries {
     ghost use Rattle.ffs_names.specs.Costs.{reads_for_entries, HoldsEntries};
-    ghost use Rattle.ffs_names.specs.Leaves.{dir_reading, dir_walk, LeavesBlocks, LeavesEntries};
+    ghost use Rattle.ffs_names.specs.Leaves.{reading_moment, walk_moment, LeavesBlocks, LeavesEntries};
     ghost use Rattle.ffs_image.specs.Reads.{ReadAfter};
     ghost use Rattle.ffs_names.specs.Shapes.{runs_of_inode, has_right_shape, BeginsDirectory, BeginsIn, EndsChunks, GivesDirectory, GivesEntry, HasEnded, HasStopped, RestartsIn, SkipsEmptyEntries, TakesFromChunk};
     ghost use Rattle.ffs_names.specs.Entering.{last_name, left_in_chunk};
@@ -186,7 +186,7 @@ impl Entries {
     {
         self.place = DIRBLKSIZ;
         self.right_so_far = false;
-        self.chunks.budget = 0;
+        self.chunks.chunks_left = 0;
     }
 
     /// Takes the entry at `place`, if one is there.
@@ -248,8 +248,8 @@ impl Entries {
             (I.reads image.new) (reads_for_entries b self.old) (reads_for_entries b self.new)
             (HoldsEntries blocks.new window.new self.new) result) }
         ensures leaves { LeavesEntries
-            (dir_reading I.Image image.old blocks.old window.old self.old)
-            (dir_reading I.Image image.new blocks.new window.new self.new) result }
+            (reading_moment I.Image image.old blocks.old window.old self.old)
+            (reading_moment I.Image image.new blocks.new window.new self.new) result }
     {
         'chunks: loop {
             match self.take() {
@@ -294,8 +294,8 @@ impl Entries {
             (I.reads image.new) (reads_for_entries b self.old) (reads_for_entries b self.new)
             (HoldsEntries blocks.new window.new self.new) result) }
         ensures leaves { LeavesEntries
-            (dir_reading I.Image image.old blocks.old window.old self.old)
-            (dir_reading I.Image image.new blocks.new window.new self.new) result }
+            (reading_moment I.Image image.old blocks.old window.old self.old)
+            (reading_moment I.Image image.new blocks.new window.new self.new) result }
         ensures stopped { OnErr result (HasStopped self.old.chunks.walk.geometry self.new) }
     {
         match self.advance(image, blocks, window) {
@@ -327,8 +327,8 @@ impl Entries {
             → ForContents (I.device image.old).contents (λ b. TakesReads (I.reads image.old)
             (I.reads image.new) (reads_for_entries b self.old) (reads_for_entries b self.new)
             (HoldsEntries blocks.new w self.new) result) }
-        ensures leaves { LeavesBlocks (dir_walk I.Image image.old blocks.old self.old.chunks)
-            (dir_walk I.Image image.new blocks.new self.new.chunks) result }
+        ensures leaves { LeavesBlocks (walk_moment I.Image image.old blocks.old self.old.chunks)
+            (walk_moment I.Image image.new blocks.new self.new.chunks) result }
         ensures current { OnOk result (left_in_chunk self.new ≡ left_in_chunk self.old) }
         ensures name { last_name self.new ≡ last_name self.old }
         ensures stopped { OnErr result (HasStopped self.old.chunks.walk.geometry self.new) }

@@ -1,7 +1,7 @@
 //! Whether a hole of a directory is kept.
 ghost use Rattle.std.specs.Prelude.{IsTrue};
 ghost use Rattle.ffs_walk.specs.Rests.{IsOver};
-ghost use Rattle.ffs_names.specs.{Windows.CanWalkDir, Leaves.{dir_walk, LooksForGap}};
+ghost use Rattle.ffs_names.specs.{Windows.CanWalkDir, Leaves.{walk_moment, LooksForGap}};
 
 use crate::chunks::Chunks;
 use ffs_image::{Image, ImageFault};
@@ -26,8 +26,8 @@ fn find_gap<I: Image>(
     chunks: &mut Chunks,
 ) -> Result<bool, ImageFault>
     requires { CanWalkDir chunks.old.walk.geometry.layout (I.device image.old) blocks.old }
-    ensures { LooksForGap (dir_walk I.Image image.old blocks.old chunks.old)
-        (dir_walk I.Image image.new blocks.new chunks.new) result }
+    ensures { LooksForGap (walk_moment I.Image image.old blocks.old chunks.old)
+        (walk_moment I.Image image.new blocks.new chunks.new) result }
 {
     'runs: while chunks.advance(image, blocks)? {
         // Its chunks are passed over.
@@ -48,8 +48,8 @@ pub fn gap_of<I: Image>(
     chunks: &mut Chunks,
 ) -> Result<bool, ImageFault>
     requires { CanWalkDir chunks.old.walk.geometry.layout (I.device image.old) blocks.old }
-    ensures { LooksForGap (dir_walk I.Image image.old blocks.old chunks.old)
-        (dir_walk I.Image image.new blocks.new chunks.new) result }
+    ensures { LooksForGap (walk_moment I.Image image.old blocks.old chunks.old)
+        (walk_moment I.Image image.new blocks.new chunks.new) result }
 {
     if is_over(&chunks.walk) {
         return Ok(chunks.gap);

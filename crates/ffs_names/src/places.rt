@@ -14,7 +14,7 @@ ghost use Rattle.ffs_volume.specs.{Directories.{Roles.roled_from, Volumes.volume
 ghost use Rattle.ffs_volume.specs.Costs.DirectoryReads.{noted_directory_cost};
 ghost use Rattle.ffs_workspace.specs.{Found.{WithBlockCheck, WithSurvey}, Holds.HoldsSurvey, Ready.CanRead};
 ghost use Rattle.ffs_workspace.specs.Tables.{CanReadInode, TableAfter};
-ghost use Rattle.ffs_names.specs.Noting.{chunk_noting, is_child_of, BeginsNotes, CanNote, CanNoteChunks};
+ghost use Rattle.ffs_names.specs.Noting.{noting_moment, is_child_of, BeginsNotes, CanNote, CanNoteChunks};
 ghost use Rattle.ffs_names.specs.Noting.{CanNoteDirectory, HoldsPlaces, NotingDirectoryLeaves, NotingChunksLeaves};
 ghost use Rattle.ffs_names.specs.Noting.{NotingLeaves, NotesDirectory, NotesEach, NotesInWords, NotesRight};
 ghost use Rattle.ffs_names.specs.Noting.{parents_sweep_cost};
@@ -108,7 +108,7 @@ fn note_chunks<I: Image>(
     words: &mut FilledList<u32>,
 ) -> Result<(), ImageFault>
     requires { CanNoteChunks parents.now dir
-        (chunk_noting I.Image image.old windows.old chunks.old words.old) }
+        (noting_moment I.Image image.old windows.old chunks.old words.old) }
     ensures right { ForContents (I.device image.old).contents
         (λ b. NotesRight chunks.old.walk.geometry.layout b
         (flat_map roled_chunk (rest b chunks.old)) words.old.items words.new.items) }
@@ -116,8 +116,8 @@ fn note_chunks<I: Image>(
         (λ b. NotesEach chunks.old.walk.geometry.layout b (is_child_of parents.now.items dir)
         (flat_map roled_chunk (rest b chunks.old)) words.old.items words.new.items)) }
     ensures leaves { NotingChunksLeaves parents.now dir
-        (chunk_noting I.Image image.old windows.old chunks.old words.old)
-        (chunk_noting I.Image image.new windows.new chunks.new words.new) result }
+        (noting_moment I.Image image.old windows.old chunks.old words.old)
+        (noting_moment I.Image image.new windows.new chunks.new words.new) result }
 {
     let order = chunks.walk.geometry.layout.order;
     let mut chunk = [0u8; DIRBLKSIZ];

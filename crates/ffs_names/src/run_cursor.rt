@@ -29,7 +29,7 @@ pub struct RunCursor {
 
 impl RunCursor {
     ghost use Rattle.ffs_names.specs.RunCursors.{BeginsRun, HasNoChunks};
-    ghost use Rattle.ffs_names.specs.Leaves.{run_reading, LeavesRun};
+    ghost use Rattle.ffs_names.specs.Leaves.{window_moment, LeavesRun};
     ghost use Rattle.ffs_names.specs.Fits.{CanBeginRun};
     ghost use Rattle.ffs_names.specs.Windows.{CanReadRun};
 
@@ -93,8 +93,8 @@ impl RunCursor {
         ensures chunk { OnOk result (ForContents (I.device image.old).contents
             (λ b. chunk.new ≡ piece (self.now.place + DIRBLKSIZ * self.now.next) DIRBLKSIZ b)) }
         ensures unread { OnErr result (chunk.new ≡ chunk.old) }
-        ensures leaves { LeavesRun self.now (run_reading I.Image image.old window.old)
-            (run_reading I.Image image.new window.new) result }
+        ensures leaves { LeavesRun self.now (window_moment I.Image image.old window.old)
+            (window_moment I.Image image.new window.new) result }
         ensures asks { ReadsAtMostOnce I.was_read self.now.place self.now.length image.old
             image.new }
     {

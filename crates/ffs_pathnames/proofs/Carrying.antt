@@ -13,8 +13,11 @@ use Rattle.ffs_volume.proofs.{Numbered.all_from_root, Sizes.some_inodes}
 use Rattle.ffs_workspace.specs.{declared.workspace.Workspace.Workspace, Lengths.IsFor, Holds.{bool_at, HoldsBlockCheck}}
 use Rattle.ffs_workspace.{specs.{Holds.{HoldsReferences, HoldsSurvey}, Leaves.LeavesSurvey}, proofs.KindLaws.reports_at}
 use Rattle.ffs_workspace.proofs.{KindLaws.suspect_is, Leaving.{claims_left, survey_left, leaves_all}}
-use Rattle.ffs_pathnames.specs.{Gathers.passed_of, DirectoryContext.DirectoryContext, Before.{IsNonePassed, IsBefore}}
-use Rattle.ffs_pathnames.specs.{Before.{IsBeforeNoted, needs_check, root_reported}, Silent.IsSilentDirectory}
+use Rattle.ffs_pathnames.specs.{KnowsNoted.KnowsNoted, Before.{IsNonePassed, KnowsBefore}}
+use Rattle.ffs_pathnames.specs.Sees.{passed_of}
+use Rattle.ffs_pathnames.specs.{Before.KnowsBeforeNoted, Silent.IsSilentDirectory}
+use Rattle.ffs_pathnames.specs.RootAnswers.{root_reported}
+use Rattle.ffs_pathnames.specs.ChecksNeeded.{needs_check}
 use Rattle.ffs_pathnames.{specs.{PassedRight.RemembersBefore, Stamps.KeepParts}, proofs.Begun.directory_is}
 use Rattle.ffs_pathnames.proofs.{Begun.quiet_parts, StampLaws.{noted_kept, stamps_length}, BetweenLaws.other_next}
 use Rattle.ffs_pathnames.proofs.{BetweenLaws.{silent_next, silent_quiet}, EmptyLaws.{looked_is, looked_dir, names_none}}
@@ -45,13 +48,13 @@ clear_right v b old w k m c silent = grind (arith, suspect_shown, some_below-non
 
 pub before_first : (v : Layout) (contents : Option (List ℕ)) (b : List ℕ) (old w : Workspace) → contents ≡ Some b →
     HoldsBlockCheck v b old → HoldsSurvey v b old → IsFor v w → IsNonePassed old w →
-    ((x : ℕ) → bool_at old.flags.items x ≡ true → IsSilentDirectory (volume_of v b) x) → IsBefore v contents w 2 b
+    ((x : ℕ) → bool_at old.flags.items x ≡ true → IsSilentDirectory (volume_of v b) x) → KnowsBefore v contents w 2 b
 before_first v contents b old w t h s m c silent = grind (arith, claims_left, survey_left, clear_right)
 
 -- the next inode, or an image that gives the same
 pub before_next : {v : Layout} {contents contents' : Option (List ℕ)} {old new : Workspace} {d d' : ℕ} {b : List ℕ} →
     contents' ≡ contents → LeavesSurvey old new → RemembersBefore (volume_of v b) d' (passed_of new) →
-    IsBefore v contents old d b → IsBefore v contents' new d' b
+    KnowsBefore v contents old d b → KnowsBefore v contents' new d' b
 before_next {v = v} {b = b} e s r k = record {
   gives_bytes = e ∙ k.gives_bytes;
   claims = claims_left v b _ _ s k.claims;
@@ -62,29 +65,29 @@ before_next {v = v} {b = b} e s r k = record {
 -- the same, where places are noted
 pub noted_next : {v : Layout} {contents contents' : Option (List ℕ)} {old new : Workspace} {d d' : ℕ} {b : List ℕ} →
     contents' ≡ contents → LeavesSurvey old new → KeepParts old.queue.items new.queue.items →
-    RemembersBefore (volume_of v b) d' (passed_of new) → IsBeforeNoted v contents old d b →
-    IsBeforeNoted v contents' new d' b
+    RemembersBefore (volume_of v b) d' (passed_of new) → KnowsBeforeNoted v contents old d b →
+    KnowsBeforeNoted v contents' new d' b
 noted_next {v = v} {b = b} e s keep r k = record {
   before = before_next e s r k.before;
   noted = noted_kept v b _ _ keep k.noted;
 }
 
 pub noted_reported : {v : Layout} {contents contents' : Option (List ℕ)} {w : Workspace} {d : ℕ} {b : List ℕ} →
-    contents' ≡ contents → IsBeforeNoted v contents w d b → IsBeforeNoted v contents' w d b
+    contents' ≡ contents → KnowsBeforeNoted v contents w d b → KnowsBeforeNoted v contents' w d b
 noted_reported {w = w} e k = noted_next e (leaves_all w) (λ x. refl) k.before.passed k
 
 module _ {v : Layout} {contents : Option (List ℕ)} {w : Workspace} {d : ℕ} {b : List ℕ} where
   -- what is known of a directory that is looked at
-  pub directory_context : (slice_index w.kinds.items d == 4) ≡ true → IsBeforeNoted v contents w d b →
-      DirectoryContext v contents w d b
+  pub directory_context : (slice_index w.kinds.items d == 4) ≡ true → KnowsBeforeNoted v contents w d b →
+      KnowsNoted v contents w d b
   directory_context e k = grind (arith, looked_dir)
 
-  pub lines_looked : (slice_index w.kinds.items d == 4) ≡ true → IsBefore v contents w d b →
+  pub lines_looked : (slice_index w.kinds.items d == 4) ≡ true → KnowsBefore v contents w d b →
       directory_lines (volume_of v b) d ≡ sized_dir_lines (volume_of v b) d
   lines_looked e k = rw (looked_is v b d, ← k.claims.kinds d, e) refl
 
   -- a directory that isn't looked at is calm
-  calm_shown : needs_check w d ≡ false → (slice_index w.kinds.items d == 4) ≡ true → IsBefore v contents w d b →
+  calm_shown : needs_check w d ≡ false → (slice_index w.kinds.items d == 4) ≡ true → KnowsBefore v contents w d b →
       IsSilentDirectory (volume_of v b) d
   calm_shown h e k =
       let suspect = suspect_shown v b w d k.claims in
@@ -92,7 +95,7 @@ module _ {v : Layout} {contents : Option (List ℕ)} {w : Workspace} {d : ℕ} {
       grind (arith, nat_tests)
 
   -- an inode that isn't looked at, or is left out
-  pub lines_skipped : 2 ≤ d → needs_check w d ≡ false → IsBefore v contents w d b →
+  pub lines_skipped : 2 ≤ d → needs_check w d ≡ false → KnowsBefore v contents w d b →
       map of_tree (directory_lines (volume_of v b) d) ≡ []
   lines_skipped two h k = elim (cases_Bool (slice_index w.kinds.items d == 4)) [
     | inl e ↦
@@ -103,8 +106,8 @@ module _ {v : Layout} {contents : Option (List ℕ)} {w : Workspace} {d : ℕ} {
     | inr e ↦ rw (looked_is v b d, ← k.claims.kinds d, e) refl
   ]
 
-  pub before_skipped : IsAcceptedLayout v → needs_check w d ≡ false → IsBefore v contents w d b →
-      IsBefore v contents w (suc d) b
+  pub before_skipped : IsAcceptedLayout v → needs_check w d ≡ false → KnowsBefore v contents w d b →
+      KnowsBefore v contents w (suc d) b
   before_skipped g h k = before_next refl (leaves_all w) (elim (cases_Bool (slice_index w.kinds.items d == 4)) [
     | inl e ↦ silent_next (volume_of v b) d (passed_of w) (calm_shown h e k) k.passed
     | inr e ↦ other_next (volume_of v b) d (passed_of w)

@@ -8,7 +8,8 @@ use Rattle.ffs_volume.{proofs.SearchLaws.some_below-from, specs.Costs.Calm.is_ca
 use Rattle.ffs_volume.specs.Costs.DirectoryReads.{directory_cost, noted_directories_cost, is_looked_at, places_cost, costs_below}
 use Rattle.ffs_workspace.specs.{declared.workspace.Workspace.Workspace, Holds.HoldsBlockCheck, Leaves.LeavesBlockCheck}
 use Rattle.ffs_names.specs.CalmDirs.{FlagsEachCalm}
-use Rattle.ffs_pathnames.specs.{Before.{IsNonePassed, needs_check}, ChecksNeeded.{ChecksLookedAt, KeepsFlags}}
+use Rattle.ffs_pathnames.specs.{Before.IsNonePassed, ChecksNeeded.{ChecksLookedAt, KeepsFlags}}
+use Rattle.ffs_pathnames.specs.ChecksNeeded.{needs_check}
 use Rattle.ffs_pathnames.specs.PassedNames.{PassedNames, after_entries, after_name, after_roled, is_flagged}
 use Rattle.ffs_pathnames.proofs.EmptyLaws.{looked_is}
 use Rattle.ffs_survey.proofs.Costs.{cost_skip, cost_take}

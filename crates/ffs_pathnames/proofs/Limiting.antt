@@ -9,7 +9,7 @@ use Rattle.ffs_workspace.{specs.{declared.workspace.Workspace.Workspace, Ready.C
 use Rattle.ffs_paths.specs.{Reads.{KnowsPlaces, OnlyReads, ReadsAtMost}, KeptParents.HoldsKeptParent}
 use Rattle.ffs_paths.specs.KeptParents.{KeptMoment, PathLeaves, SparesReads}
 use Rattle.ffs_paths.specs.declared.kept_parent.KeptParent.{KeptParent}
-use Rattle.ffs_pathnames.specs.{DirectoryContext.DirectoryContext, Ready.LimitedPathLeaves}
+use Rattle.ffs_pathnames.specs.{KnowsNoted.KnowsNoted, Ready.LimitedPathLeaves}
 use Rattle.ffs_pathnames.proofs.LineCounts.{knows_places}
 
 -- the moment at which an image, how often it was read, and a workspace are these; and what is kept of a parent
@@ -24,7 +24,7 @@ kept_at d reads w s = record { at = path_at d reads w; kept = s }
 pub record IsGathered {T : Type 0} (n : ℕ) (v : Layout) (d d' : Device) (name_lent name : GName) (count count' : ℕ)
     (w w' : Workspace) (s : KeptParent) (spent : Bool) (r : Result T ImageFault) : Type 0 where
   pub same_image : name_lent ≡ name
-  pub all : (b : List ℕ) (x : ℕ) → DirectoryContext v d.contents w x b → spent ≡ true → ⊥
+  pub all : (b : List ℕ) (x : ℕ) → KnowsNoted v d.contents w x b → spent ≡ true → ⊥
   pub leaves : spent ≡ false → LimitedPathLeaves v n (path_at d count w) (path_at d' count' w') s r
   pub forgets : spent ≡ true → (x : T) (s' : KeptParent) → HoldsKeptParent v d'.contents w' s'
       → LimitedPathLeaves v n (path_at d count w) (path_at d' count' w') s' (Ok x)

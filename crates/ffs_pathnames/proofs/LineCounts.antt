@@ -8,12 +8,12 @@ use Rattle.ffs_volume.specs.Directories.{PathnameCheck.extra_lines, Roles.{Roled
 use Rattle.ffs_volume.specs.{Messages.Kinds.{TreeMessage, of_tree}, Encodings.Places.AreNoted}
 use Rattle.ffs_workspace.{specs.declared.workspace.Workspace.Workspace, proofs.Leaving.{claims_held, survey_held}}
 use Rattle.ffs_paths.{specs.Reads.{KnowsPlaces, OnlyReads, ReadsFew}, proofs.Climbed.few_more}
-use Rattle.ffs_pathnames.specs.{DirectoryContext.DirectoryContext, PassedNames.{PassedNames, after_roled}}
+use Rattle.ffs_pathnames.specs.{KnowsNoted.KnowsNoted, PassedNames.{PassedNames, after_roled}}
 use Rattle.ffs_pathnames.specs.PassedNames.{entries_reported, roled_reported}
 
 -- ---- where there is a line
 pub knows_places : (v : Layout) (contents : Option (List ℕ)) (w : Workspace) (d : ℕ) (b : List ℕ) →
-    DirectoryContext v contents w d b → AreNoted v b w.queue.items → KnowsPlaces v contents w b
+    KnowsNoted v contents w d b → AreNoted v b w.queue.items → KnowsPlaces v contents w b
 knows_places v contents w d b k noted = grind arith
 
 -- where nothing is read there are as few reads as one likes

@@ -9,7 +9,7 @@ use Rattle.ffs_workspace.specs.{declared.workspace.{Windows.Windows, Workspace.W
 use Rattle.ffs_paths.specs.{declared.kept_parent.KeptParent.KeptParent, Reads.{OnlyReadsFew}}
 use Rattle.ffs_paths.proofs.{Climbed.{few_more, few_then}, Keeping.{kept_on, reads_then, kept_parent_held}}
 use Rattle.ffs_names.specs.Windows.{CanReadChunks, CanWalkDir}
-use Rattle.ffs_pathnames.{specs.{Ready.{DirectoryLeaves, LimitedPathLeaves, ReadyWith}, Stamps.KeepParts}, proofs.StampLaws.keep_more}
+use Rattle.ffs_pathnames.{specs.{Ready.{DirectoryLeaves, LimitedPathLeaves, CanMakePaths}, Stamps.KeepParts}, proofs.StampLaws.keep_more}
 use Rattle.ffs_report.specs.{PhaseOutcome.ImageAfter, declared.fault.RunFault.RunFault}
 use Rattle.ffs_workspace.{specs.Leaves.LeavesSurvey, proofs.Leaving.leaves_more}
 
@@ -29,7 +29,7 @@ ready_read v d d' w blocks chunk r same can = grind (arith, rules)
 
 -- and so is what is kept of a directory and its children
 pub ready_next : (v : Layout) (d d' : Device) (w : Workspace) (s : KeptParent) (blocks : Blocks) (chunk : Window)
-    → ReadyWith v d w s → d' ≡ d → CanReadChunks v d' blocks chunk → ReadyWith v d' (with_chunk w blocks chunk) s
+    → CanMakePaths v d w s → d' ≡ d → CanReadChunks v d' blocks chunk → CanMakePaths v d' (with_chunk w blocks chunk) s
 ready_next v d d' w s blocks chunk r e can = grind (arith, ready_read, kept_parent_held)
 
 -- the same of windows that are as they were, but for these two
@@ -39,8 +39,8 @@ pub windows_read : (v : Layout) (d d' : Device) (w : Workspace) (windows : Windo
 windows_read v d d' w windows r same others can = grind (arith, ready_read)
 
 pub windows_next : (v : Layout) (d d' : Device) (w : Workspace) (s : KeptParent) (windows : Windows)
-    → ReadyWith v d w s → d' ≡ d → windows ≡ record w.windows { blocks = windows.blocks; current = windows.current }
-    → CanReadChunks v d' windows.blocks windows.current → ReadyWith v d' (record w { windows = windows }) s
+    → CanMakePaths v d w s → d' ≡ d → windows ≡ record w.windows { blocks = windows.blocks; current = windows.current }
+    → CanReadChunks v d' windows.blocks windows.current → CanMakePaths v d' (record w { windows = windows }) s
 windows_next v d d' w s windows r e others can = grind (arith, ready_next)
 
 -- and where other stamps are in the queue, too

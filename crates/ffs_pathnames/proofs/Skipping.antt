@@ -6,7 +6,8 @@ use Rattle.ffs_volume.specs.{Directories.{Volumes.volume_of, PathnameCheck.direc
 use Rattle.ffs_volume.{specs.{Messages.Kinds.lines_from, Encodings.Places.is_due}, proofs.Numbered.from_next}
 use Rattle.ffs_workspace.specs.{declared.workspace.Workspace.Workspace, Lengths.IsFor, Holds.HoldsSurvey}
 use Rattle.ffs_workspace.proofs.Leaving.{findings_claims}
-use Rattle.ffs_pathnames.{specs.Before.{IsBefore, needs_check}, proofs.Carrying.{before_skipped, lines_skipped}}
+use Rattle.ffs_pathnames.{specs.Before.KnowsBefore, proofs.Carrying.{before_skipped, lines_skipped}}
+use Rattle.ffs_pathnames.specs.ChecksNeeded.{needs_check}
 use Rattle.ffs_pathnames.proofs.{Findings.findings_noted, StampLaws.{none_stamped, stamps_length}}
 
 -- none of the inodes from 2 to before n is looked at
@@ -15,8 +16,8 @@ IsUnseen w n = (x : ℕ) → 2 ≤ x → x < n → needs_check w x ≡ false
 
 -- what is known before the first inode is known before n, and nothing is reported before n
 pub unseen : (v : Layout) (contents : Option (List ℕ)) (w : Workspace) (b : List ℕ) (n end : ℕ) → IsAcceptedLayout v →
-    2 ≤ n → n ≤ end → IsUnseen w n → IsBefore v contents w 2 b →
-    IsBefore v contents w n b × (map of_tree (lines_from (directory_lines (volume_of v b)) 2 (end - 2))
+    2 ≤ n → n ≤ end → IsUnseen w n → KnowsBefore v contents w 2 b →
+    KnowsBefore v contents w n b × (map of_tree (lines_from (directory_lines (volume_of v b)) 2 (end - 2))
     ≡ map of_tree (lines_from (directory_lines (volume_of v b)) n (end - n)))
 unseen v contents w b (suc (suc zero)) end g two le h k = (k, refl)
 unseen v contents w b (suc (suc (suc n))) end g two le h k =
@@ -32,7 +33,7 @@ unseen v contents w b n end g two le h k = absurd (omega arith)
 pub noted_before : (v : Layout) (contents contents' : Option (List ℕ)) (old new : Workspace) (n : ℕ) (b : List ℕ) →
     2 ≤ n → contents' ≡ contents → new ≡ record old { windows = new.windows; queue = new.queue } → IsFor v new →
     HoldsSurvey v b new → ((x : ℕ) → is_due (slice_index new.queue.items x) ≡ false) →
-    IsBefore v contents old n b → IsBefore v contents' new n b
+    KnowsBefore v contents old n b → KnowsBefore v contents' new n b
 unfolding volume_of volume_with
 noted_before v contents contents' old new n b two same lists made survey none k = record {
   gives_bytes = same ∙ k.gives_bytes;

@@ -3,7 +3,8 @@ use Rattle.std.specs.Prelude.{◌≡◌, ℕ, List}
 use Rattle.ffs_volume.specs.{declared.Layout.Layout, Blocks.Inodes.inode_of}
 use Rattle.ffs_volume.specs.Directories.{Roles.roled_entries, Volumes.volume_of}
 use Rattle.ffs_workspace.specs.declared.workspace.Workspace.{Workspace}
-use Rattle.ffs_pathnames.specs.{declared.look.FirstLook.FirstLook, Gathers.passed_of, PassedNames.are_quiet}
+use Rattle.ffs_pathnames.specs.{declared.look.FirstLook.FirstLook, PassedNames.are_quiet}
+use Rattle.ffs_pathnames.specs.Sees.{passed_of}
 use Rattle.ffs_pathnames.specs.PassedNames.{after_looks}
 
 -- its inode is read, its entries were looked at, and each inode that belongs to it is stamped

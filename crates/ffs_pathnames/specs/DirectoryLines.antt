@@ -9,8 +9,9 @@ use Rattle.ffs_volume.specs.{Report.Reads.sweep_reads, Messages.Kinds.{TreeMessa
 use Rattle.ffs_volume.specs.Costs.DirectoryReads.{directories_cost, directory_cost, directory_runs, looks_cost}
 use Rattle.ffs_volume.specs.{Costs.DirectoryReads.places_cost, Encodings.Places.AreNoted}
 use Rattle.ffs_paths.specs.declared.kept_parent.KeptParent.{KeptParent}
-use Rattle.ffs_workspace.specs.{Holds.{HoldsBlockCheck, HoldsSurvey}, Leaves.LeavesFindings, Ready.CanRead}
-use Rattle.ffs_pathnames.specs.{ChecksNeeded.ChecksLookedAt, Before.IsBefore, Gathers.passed_of, LineReads.again_reads}
+use Rattle.ffs_workspace.specs.{Holds.{HoldsBlockCheck, HoldsSurvey}, Leaves.LeavesAllButPlaces, Ready.CanRead}
+use Rattle.ffs_pathnames.specs.{ChecksNeeded.ChecksLookedAt, Before.KnowsBefore, LineReads.again_reads}
+use Rattle.ffs_pathnames.specs.Sees.{passed_of}
 use Rattle.ffs_pathnames.specs.{LineReads.ReadsByLines, HeaderValues.{KnowsHeader, facts_lines}}
 use Rattle.ffs_pathnames.specs.{Moments.LinesMoment, PassedNames.are_quiet, Ready.LinesLeave}
 use Rattle.ffs_pathnames.specs.{Ready.DirectoryLeaves, declared.checking.Checking.Checking}
@@ -52,18 +53,18 @@ pub record ReportsDirectory {T : Type 0} (v : Layout) (task : (old new : LinesMo
 -- failed, places that are noted are right, too
 pub record ReportsTree {T : Type 0} (v : Layout) (lines : Volume → List TreeMessage) (old new : LinesMoment (Unit {0}))
     (result : Result T RunFault) : Type 0 where
-  pub text : PhaseReports (IsBefore v old.at.image.contents old.at.workspace 2)
+  pub text : PhaseReports (KnowsBefore v old.at.image.contents old.at.workspace 2)
       (λ b. map of_tree (lines (volume_of v b))) old.report new.report result
-  pub reads : ForBytes (IsBefore v old.at.image.contents old.at.workspace 2) (λ b.
+  pub reads : ForBytes (KnowsBefore v old.at.image.contents old.at.workspace 2) (λ b.
       new.at.reads ≤ old.at.reads + (3 * directories_cost v b + line_reads * length (lines (volume_of v b))))
-  pub looks : ForBytes (IsBefore v old.at.image.contents old.at.workspace 2) (λ b.
+  pub looks : ForBytes (KnowsBefore v old.at.image.contents old.at.workspace 2) (λ b.
       ChecksLookedAt v b old.at.workspace → new.at.reads
       ≤ old.at.reads + (places_cost v b + looks_cost v b + line_reads * length (lines (volume_of v b))))
   pub paid : Paid line_reads old.report new.report (old.at.reads + 3 * sweep_reads v) new.at.reads result
   pub image : ImageAfter old.at.image new.at.image result
-  pub holds : OnOk result (ForBytes (IsBefore v old.at.image.contents old.at.workspace 2)
+  pub holds : OnOk result (ForBytes (KnowsBefore v old.at.image.contents old.at.workspace 2)
       (λ b. HoldsBlockCheck v b new.at.workspace × HoldsSurvey v b new.at.workspace))
-  pub findings : LeavesFindings old.at.workspace new.at.workspace
+  pub findings : LeavesAllButPlaces old.at.workspace new.at.workspace
   pub ready : CanRead v new.at.image new.at.workspace
 
 -- the entries of a directory are reported: its Runs are read once, its path is made once, and for each line

@@ -5,7 +5,8 @@ use Rattle.ffs_image.specs.{Reads.ReadAfter, declared.image.ImageFault.ImageFaul
 use Rattle.ffs_image.specs.Known.{ForBytes}
 use Rattle.ffs_volume.specs.{declared.Layout.Layout, Blocks.Inodes.inode_of, Directories.Roles.roled_entries}
 use Rattle.ffs_volume.specs.Directories.{PathnameCheck.are_sound, Volumes.volume_of}
-use Rattle.ffs_pathnames.specs.{declared.look.{ChunksLook.ChunksLook, FirstLook.FirstLook}, Gathers.passed_of}
+use Rattle.ffs_pathnames.specs.declared.look.{ChunksLook.ChunksLook, FirstLook.FirstLook}
+use Rattle.ffs_pathnames.specs.Sees.{passed_of}
 use Rattle.ffs_pathnames.specs.{PassedNames.{are_quiet, after_looks}, StartChunks.start_chunk, Stamps.KeepParts}
 use Rattle.ffs_workspace.specs.{declared.workspace.Workspace.Workspace, Leaves.LeavesSurvey, Ready.CanRead}
 

@@ -1,6 +1,5 @@
 -- What is gathered for the messages on an entry and on a directory.
-use Rattle.std.specs.Prelude.{◌≡◌, ℕ, ◌<◌, ◌^◌, Bool, true, false, IsTrue, List, vec_len, ◌+◌, ◌≤◌, Result, IfOk, OnOk}
-use Rattle.std.specs.Prelude.{if◌then◌else◌}
+use Rattle.std.specs.Prelude.{◌≡◌, ℕ, ◌<◌, Bool, true, false, IsTrue, List, vec_len, ◌+◌, ◌≤◌, Result, IfOk, OnOk}
 use Rattle.ffs_workspace.specs.Moments.{work_moment}
 use Rattle.ffs_image.specs.{Device.ForContents, declared.image.{Image.Ghosts, ImageFault.ImageFault}}
 use Rattle.ffs_volume.specs.{Messages.Kinds.TreeMessage, Directories.{Volumes.volume_of, Entries.Entry}}
@@ -14,12 +13,13 @@ use Rattle.ffs_image.specs.Known.{ForBytes}
 use Rattle.ffs_paths.specs.{DirectoryPaths.IsPathOf, KeptParents.{kept_moment, StoresChild, PathLeaves, SparesReads}}
 use Rattle.ffs_paths.specs.{LastPaths.last_path, Reads.{KnowsPlaces, OnlyReadsFew}}
 use Rattle.ffs_paths.specs.declared.{entry_paths.EntryPaths.EntryPaths, kept_parent.KeptParent.KeptParent}
-use Rattle.ffs_pathnames.specs.{DirectoryContext.{DirectoryContext, KeepsPath, KnowsPath}, Ready.LimitedPathLeaves}
+use Rattle.ffs_pathnames.specs.{KnowsNoted.{KnowsNoted, KeepsPath, KnowsPath}, Ready.LimitedPathLeaves}
 use Rattle.ffs_pathnames.specs.declared.{gather.DirectoryEntry.DirectoryEntry, entry_texts.EntryTexts.EntryTexts}
-use Rattle.ffs_pathnames.specs.{PassedNames.{PassedNames, roled_reported, verdict_at_reading}, Stamps.stamps_of}
+use Rattle.ffs_pathnames.specs.PassedNames.{roled_reported, verdict_at_reading}
 use Rattle.ffs_pathnames.specs.LineReads.{ReadsPathOnce}
 use Rattle.ffs_workspace.specs.{declared.workspace.Workspace.Workspace, Lengths.IsFor}
 use Rattle.ffs_workspace.specs.Holds.{HoldsBlockCheck, HoldsSurvey}
+use Rattle.ffs_pathnames.specs.Sees.{passed_of}
 
 -- the messages are the same as with the volume's own attributes and paths
 abbrev pub IsEnough : Volume → Verdict → (dir number : ℕ) → List ℕ → Attr → (path directory : List ℕ) → Type 0
@@ -27,10 +27,6 @@ IsEnough vol verdict dir number name attr path directory =
     verdict_lines verdict number attr path directory
     ≡ verdict_lines verdict number (attributes vol number) (entry_path (graph_of vol) dir name)
     (dir_path (graph_of vol) number)
-
--- what a workspace remembers of the names that were passed, during the pathname check
-abbrev pub passed_of : Workspace → PassedNames
-passed_of w = record { flags = w.flags.items; stamps = stamps_of w.parents.items w.queue.items }
 
 -- an entry with its role
 abbrev pub roled_value : DirectoryEntry → RoledEntry
@@ -78,14 +74,6 @@ pub record IsVerdictIn (w : Workspace) (dir : ℕ) (e : Entry) (answer : Verdict
   pub verdict : (v : Layout) (b : List ℕ) → IsFor v w → HoldsBlockCheck v b w → HoldsSurvey v b w
       → answer ≡ verdict_at_reading (volume_of v b) dir (passed_of w) e
 
--- the lists that say something of each inode are as long as one another
-pub record HasInodeLists (w : Workspace) : Type 0 where
-  pub marked : vec_len w.marked ≡ vec_len w.kinds
-  pub parents : vec_len w.parents ≡ vec_len w.kinds
-  pub flags : vec_len w.flags ≡ vec_len w.kinds
-  pub queue : vec_len w.queue ≡ vec_len w.kinds
-  pub few : vec_len w.kinds < 2 ^ 31
-
 -- what calls gather that messages show; they only read the image. A clause gives the image before the call and
 -- after it (`old new`), then the workspaces (`w w'`): a path that is settled leaves the very image (`BeginsPath`)
 module _ {S : Type 0} (I : Ghosts S) (v : Layout) (old new : S) (w w' : Workspace) where
@@ -116,7 +104,7 @@ module _ {S : Type 0} (I : Ghosts S) (v : Layout) (old new : S) (w w' : Workspac
   -- directory y is checked
   pub record SparesPath {T : Type 0} (dir : ℕ) (s s' : KeptParent) (result : Result T ImageFault) : Type 0 where
     pub reads : SparesReads v dir (kept_moment I old w s) (kept_moment I new w' s')
-    pub keeps : OnOk result ((y : ℕ) → ForBytes (DirectoryContext v (I.device old).contents w y)
+    pub keeps : OnOk result ((y : ℕ) → ForBytes (KnowsNoted v (I.device old).contents w y)
         (λ b. StoresChild w dir s s'))
 
   -- the path is made, with at most `path_reads` reads of any image
@@ -141,14 +129,14 @@ module _ {S : Type 0} (I : Ghosts S) (v : Layout) (old new : S) (w w' : Workspac
   -- the path of the directory `dir` is put into a text, whichever directory y is checked
   pub record PutsPath {T : Type 0} (dir : ℕ) (text : List ℕ) (s : KeptParent) (result : Result T ImageFault)
       : Type 0 where
-    pub path : OnOk result ((y : ℕ) → ForBytes (DirectoryContext v (I.device old).contents w y) (λ b.
+    pub path : OnOk result ((y : ℕ) → ForBytes (KnowsNoted v (I.device old).contents w y) (λ b.
         text ≡ dir_path (graph_of (volume_of v b)) dir))
     pub leaves : ReadsForPaths path_reads s result
 
   -- the same, where it is wanted, and else nothing is read; the paths of entries and of their directory stay
   pub record PutsWanted {T : Type 0} (wanted : Bool) (dir : ℕ) (t t' : EntryTexts) (result : Result T ImageFault)
       : Type 0 where
-    pub path : OnOk result ((y : ℕ) → ForBytes (DirectoryContext v (I.device old).contents w y) (λ b.
+    pub path : OnOk result ((y : ℕ) → ForBytes (KnowsNoted v (I.device old).contents w y) (λ b.
         IsTrue wanted → t'.shown_directory.items ≡ dir_path (graph_of (volume_of v b)) dir))
     pub same : (t'.path_settled ≡ t.path_settled) × (t'.paths ≡ t.paths)
     pub leaves : ReadsForPaths (if_wanted wanted path_reads) t'.kept_parent result
@@ -167,7 +155,7 @@ module _ {S : Type 0} (I : Ghosts S) (v : Layout) (old new : S) (w w' : Workspac
   -- all that messages of a verdict on an entry show, where the path of its directory is made; that stays
   pub record GathersPathsAndAttr (e : Entry) (verdict : Verdict) (t t' : EntryTexts) (result : Result Attr ImageFault)
       : Type 0 where
-    pub enough : IfOk result (λ a. (dir : ℕ) → ForBytes (DirectoryContext v (I.device old).contents w dir) (λ b.
+    pub enough : IfOk result (λ a. (dir : ℕ) → ForBytes (KnowsNoted v (I.device old).contents w dir) (λ b.
         IsPathOf (graph_of (volume_of v b)) dir t.paths.directory
         → IsEnough (volume_of v b) verdict dir e.number e.name a (last_path t'.paths) t'.shown_directory.items))
     pub same : (t'.path_settled ≡ t.path_settled) × (t'.paths.directory ≡ t.paths.directory)
@@ -187,7 +175,7 @@ module _ {S : Type 0} (I : Ghosts S) (v : Layout) (old new : S) (w w' : Workspac
   -- what the message on an extra entry of the directory `dir` shows: its attributes and its path; the
   -- path that is settled, if any, still is that of `dir`, and is made once
   pub record GathersExtra (dir : ℕ) (t t' : EntryTexts) (result : Result Attr ImageFault) : Type 0 where
-    pub attr : IfOk result (λ a. ForBytes (DirectoryContext v (I.device old).contents w dir) (λ b.
+    pub attr : IfOk result (λ a. ForBytes (KnowsNoted v (I.device old).contents w dir) (λ b.
         a ≡ attributes (volume_of v b) dir))
     pub text : OnOk result (ForBytes (KnowsPath v (I.device old).contents w dir t) (λ b.
         t'.shown_directory.items ≡ dir_path (graph_of (volume_of v b)) dir))

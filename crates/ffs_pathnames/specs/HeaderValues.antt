@@ -10,7 +10,7 @@ use Rattle.ffs_volume.specs.Directories.{Entries.Entry, Naming.graph_of, Paths.d
 use Rattle.ffs_volume.specs.Messages.Kinds.{TreeMessage}
 use Rattle.ffs_layout.specs.Entry.{entry_value}
 use Rattle.ffs_workspace.specs.declared.workspace.Workspace.{Workspace}
-use Rattle.ffs_pathnames.specs.{DirectoryContext.DirectoryContext, StartChunks.start_chunk}
+use Rattle.ffs_pathnames.specs.{KnowsNoted.KnowsNoted, StartChunks.start_chunk}
 use Rattle.ffs_pathnames.specs.declared.header.HeaderFacts.{HeaderFacts}
 
 -- 0 means no number
@@ -29,7 +29,7 @@ pub record AreFirstTwo (one two : Option Entry) (started : Bool) (order : Order)
 -- the bytes are those of the context of a header's directory, and the header shows its inode
 abbrev pub KnowsHeader : Layout → Device → Workspace → HeaderFacts → List ℕ → Type 0
 KnowsHeader v d w h b =
-    DirectoryContext v d.contents w h.attr.number b
+    KnowsNoted v d.contents w h.attr.number b
     × (h.attr ≡ attributes_of h.attr.number (inode_of v b h.attr.number))
 
 -- what is wrong, with names as their bytes

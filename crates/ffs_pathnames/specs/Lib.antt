@@ -5,10 +5,11 @@
 -- and what is reported by that, `Silent` of which directories nothing is reported, `PassedRight` that what is
 -- remembered is right, `Sees` what the lists of the workspace show of a volume.
 --
--- What calls need, and leave: `Moments` has the values that calls change, `DirectoryContext` what is known of
+-- What calls need, and leave: `Moments` has the values that calls change, `KnowsNoted` what is known of
 -- the bytes at a directory, `Ready` when paths can be made, `LineReads` how many reads lines take, `Gathers`
 -- what messages show, `Before` what is known between two directories, `ReadsLeft` how many reads are left for
--- first looks and second readings.
+-- first looks and second readings. A name with `Knows` says what is known of the bytes: a clause is for those
+-- of which that holds.
 --
 -- The first look at a directory: `StartChunks` is about its first chunk, `Looks` about the entries of a chunk,
 -- `DirectoryLooks` about all of it, `HeaderValues` about what is found, and is wrong, before its entries, `Begins`
@@ -26,7 +27,7 @@ pub mod Silent
 pub mod PassedRight
 pub mod Sees
 pub mod Moments
-pub mod DirectoryContext
+pub mod KnowsNoted
 pub mod Ready
 pub mod LineReads
 pub mod Gathers

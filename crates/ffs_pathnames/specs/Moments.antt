@@ -25,13 +25,13 @@ lines_moment I W image w report kept =
 
 -- a moment of a directory's second reading: the image, how often it was read by then, how many reads are
 -- left, the windows, and how far its chunks are read
-pub record SecondReading : Type 0 where
+pub record SecondReadingMoment : Type 0 where
   pub image : Device
   pub reads : ℕ
   pub left : ℕ
   pub windows : Windows
   pub chunks : Chunks
 
-abbrev pub second_reading : {I : Type 0} → image.Ghosts I → I → (left : ℕ) → Windows → Chunks → SecondReading
-second_reading I image left windows chunks =
+abbrev pub second_moment : {I : Type 0} → image.Ghosts I → I → (left : ℕ) → Windows → Chunks → SecondReadingMoment
+second_moment I image left windows chunks =
     record { image = I.device image; reads = I.reads image; left = left; windows = windows; chunks = chunks }

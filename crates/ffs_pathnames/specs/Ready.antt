@@ -7,26 +7,26 @@ use Rattle.ffs_workspace.specs.{declared.workspace.Workspace.Workspace, Ready.Ca
 use Rattle.ffs_report.specs.{PhaseOutcome.ImageAfter, declared.fault.RunFault.RunFault}
 use Rattle.ffs_paths.specs.{Reads.{CanReadFor}, declared.kept_parent.KeptParent.KeptParent}
 use Rattle.ffs_pathnames.specs.Stamps.{KeepParts}
-pub use Rattle.ffs_paths.specs.KeptParents.{ReadyWith, ReadyToPath, PathLeaves}
+pub use Rattle.ffs_paths.specs.KeptParents.{CanMakePaths, CanMakePath, PathLeaves}
 
 -- all is ready for a call, and the inode x is there, where it is wanted
-pub record ReadyWhere (wanted : Bool) (v : Layout) (x : ℕ) (is_ready : Type 0) : Type 0 where
+pub record CanIfWanted (wanted : Bool) (v : Layout) (x : ℕ) (is_ready : Type 0) : Type 0 where
   pub ready : is_ready
   pub number : IsTrue wanted → x < v.ncg * v.ipg
 
 -- the directory `dir` can be looked at: it is the root or one after it
-pub record ReadyToLook (v : Layout) (d : Device) (w : Workspace) (dir : ℕ) : Type 0 where
+pub record CanLookAt (v : Layout) (d : Device) (w : Workspace) (dir : ℕ) : Type 0 where
   pub ready : CanReadFor v d w dir
   pub low : 2 ≤ dir
 
 -- the directory `dir` can be checked: its path can be made, and it is the root or one after it
-pub record ReadyToCheck (v : Layout) (d : Device) (w : Workspace) (s : KeptParent) (dir : ℕ) : Type 0 where
-  pub path : ReadyToPath v d w s dir
+pub record CanCheck (v : Layout) (d : Device) (w : Workspace) (s : KeptParent) (dir : ℕ) : Type 0 where
+  pub path : CanMakePath v d w s dir
   pub low : 2 ≤ dir
 
 -- paths can be made after a call; where it failed, nothing is said of what is kept of a parent
 abbrev pub ReadyAfter : {T E : Type 0} → Layout → Device → Workspace → KeptParent → Result T E → Type 0
-ReadyAfter v d w s (Ok x) = ReadyWith v d w s
+ReadyAfter v d w s (Ok x) = CanMakePaths v d w s
 ReadyAfter v d w s (Err e) = CanRead v d w
 
 -- what a call leaves that makes paths, and reads what messages show. It makes n reads at most, of any image

@@ -7,7 +7,19 @@ use Rattle.ffs_report.specs.declared.fault.RunFault.{RunFault, TheVariants.{Read
 use Rattle.ffs_volume.specs.{declared.Layout.Layout, Directories.PathnameCheck.continues_after_root}
 use Rattle.ffs_volume.specs.{Directories.Volumes.volume_of, Messages.Kinds.{Message, stops_check}}
 use Rattle.ffs_workspace.specs.declared.workspace.Workspace.{Workspace}
-use Rattle.ffs_pathnames.specs.{Before.IsBefore, declared.pass2.Root.{Root, TheVariants.{Go, Stop}}}
+use Rattle.ffs_pathnames.specs.{Before.KnowsBefore, declared.pass2.Root.{Root, TheVariants.{Go, Stop}}}
+use Rattle.std.specs.Prelude.{not, ◌||◌, ◌==◌}
+use Rattle.ffs_volume.specs.Messages.Kinds.{TreeMessage}
+use Rattle.ffs_volume.specs.Messages.Kinds.{reported, of_directory}
+use Rattle.ffs_volume.specs.Encodings.Kinds.{is_dir_kind, is_empty_dir_kind}
+use Rattle.ffs_volume.specs.declared.tree_lines.DirectoryLine.TheVariants.{RootNone, RootNotDir, RootSuspect}
+
+-- what is reported of the root, by its kind and by whether it is marked
+unfoldable pub root_reported : ℕ → Bool → List TreeMessage
+root_reported kind marked =
+    if kind == 0 then of_directory RootNone ∷ []
+    else (if not (is_dir_kind kind) then of_directory RootNotDir ∷ []
+    else reported (marked || is_empty_dir_kind kind) (of_directory RootSuspect))
 
 abbrev pub is_go : Root → Bool
 is_go Go = true
@@ -25,7 +37,7 @@ pub record SaidStop (knows : List ℕ → Type 0) (earlier : List Message) (all 
 -- where it does
 abbrev pub AnswersRoot : Layout → Device → Workspace → Result Root RunFault → Type 0
 AnswersRoot v d w (Ok root) =
-    ForBytes (IsBefore v d.contents w 2) (λ b. is_go root ≡ continues_after_root (volume_of v b))
+    ForBytes (KnowsBefore v d.contents w 2) (λ b. is_go root ≡ continues_after_root (volume_of v b))
 AnswersRoot v d w (Err (Read fault)) =
-    ForBytes (IsBefore v d.contents w 2) (λ b. continues_after_root (volume_of v b) ≡ true)
+    ForBytes (KnowsBefore v d.contents w 2) (λ b. continues_after_root (volume_of v b) ≡ true)
 AnswersRoot v d w (Err (Out fault)) = ⊤

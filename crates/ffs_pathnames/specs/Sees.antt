@@ -1,5 +1,6 @@
 -- What the lists of a workspace show of a volume.
-use Rattle.std.specs.{Prelude.{◌≡◌, ℕ, Bool, List, ◌<◌, ◌≤◌, ◌/◌, ◌==◌, true, false, not, length, slice_index}, List.slice_index_or}
+use Rattle.std.specs.Prelude.{◌≡◌, ℕ, Bool, List, ◌<◌, ◌≤◌, ◌/◌, ◌==◌, true, false, not, length, slice_index}
+use Rattle.std.specs.List.{slice_index_or}
 use Rattle.ffs_volume.specs.Directories.{Entries.Entry, PathnameCheck.{is_silent, verdict_on}}
 use Rattle.ffs_volume.specs.{Blocks.Inodes.{is_allocated, is_unknown}, Encodings.Kinds.{class_of_kind, is_dir_kind}}
 use Rattle.ffs_volume.specs.Encodings.Kinds.{is_allocated_kind, is_unknown_kind, type_of_kind}
@@ -8,6 +9,20 @@ use Rattle.ffs_volume.specs.Directories.Naming.{graph_of}
 use Rattle.ffs_workspace.specs.Holds.{bool_at}
 use Rattle.ffs_survey.specs.Survey.{suspect_at}
 use Rattle.ffs_pathnames.specs.{declared.inodes.Inodes.Inodes, PassedNames.PassedNames, Stamps.stamps_of}
+use Rattle.std.specs.Prelude.{◌^◌, vec_len}
+use Rattle.ffs_workspace.specs.declared.workspace.Workspace.{Workspace}
+
+-- what a workspace remembers of the names that were passed, during the pathname check
+abbrev pub passed_of : Workspace → PassedNames
+passed_of w = record { flags = w.flags.items; stamps = stamps_of w.parents.items w.queue.items }
+
+-- the lists that say something of each inode are as long as one another
+pub record HasInodeLists (w : Workspace) : Type 0 where
+  pub marked : vec_len w.marked ≡ vec_len w.kinds
+  pub parents : vec_len w.parents ≡ vec_len w.kinds
+  pub flags : vec_len w.flags ≡ vec_len w.kinds
+  pub queue : vec_len w.queue ≡ vec_len w.kinds
+  pub few : vec_len w.kinds < 2 ^ 31
 
 -- of each inode its kind, whether it is marked, and its parent
 pub record Sees (vol : Volume) (i : Inodes) : Type 0 where

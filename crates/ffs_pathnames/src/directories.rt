@@ -3,8 +3,8 @@
 ghost use Rattle.std.specs.Prelude.{◌≡◌, ◌-◌, ◌<◌, ◌≤◌, ℕ, false};
 ghost use Rattle.ffs_volume.specs.{Messages.Kinds.lines_from, Directories.PathnameCheck.directory_lines};
 ghost use Rattle.ffs_volume.specs.Blocks.Inodes.{inodes_of};
-ghost use Rattle.ffs_pathnames.specs.Ready.{ReadyToCheck};
-ghost use Rattle.ffs_pathnames.specs.Before.{ListsInode, ListsInodes, IsFirstToCheck, needs_check};
+ghost use Rattle.ffs_pathnames.specs.Ready.{CanCheck};
+ghost use Rattle.ffs_pathnames.specs.ChecksNeeded.{ListsInode, ListsInodes, IsFirstToCheck, needs_check};
 ghost use Rattle.ffs_pathnames.specs.DirectoryLines.{ReadsQuietOnce, ReportsDirectory, ReportsTree};
 ghost use Rattle.ffs_pathnames.specs.{Tasks.{begin_task, check_task, sized_task}, Moments.lines_moment};
 ghost use Rattle.ffs_workspace.specs.{Ready.CanRead};
@@ -113,7 +113,7 @@ fn check_if_needed<I: Image, W: Output>(
     number: u32,
     report: &mut Report<'_, W>,
 ) -> Result<(), RunFault>
-    requires { ReadyToCheck geometry.now.layout (I.device image.old) workspace.old
+    requires { CanCheck geometry.now.layout (I.device image.old) workspace.old
         checking.old.texts.kept_parent number }
 
     ensures lines { ReportsDirectory geometry.now.layout (check_task geometry.now.layout number)
@@ -140,7 +140,7 @@ fn check_directory<I: Image, W: Output>(
     dir: u32,
     report: &mut Report<'_, W>,
 ) -> Result<(), RunFault>
-    requires { ReadyToCheck geometry.now.layout (I.device image.old) workspace.old
+    requires { CanCheck geometry.now.layout (I.device image.old) workspace.old
         checking.old.texts.kept_parent dir }
     ensures lines { ReportsDirectory geometry.now.layout (sized_task geometry.now.layout dir)
         (lines_moment I.Image W.Output image.old workspace.old report.old checking.old)
@@ -170,7 +170,7 @@ fn begin_directory<I: Image, W: Output>(
     dir: u32,
     report: &mut Report<'_, W>,
 ) -> Result<FirstLook, RunFault>
-    requires { ReadyToCheck geometry.now.layout (I.device image.old) workspace.old
+    requires { CanCheck geometry.now.layout (I.device image.old) workspace.old
         checking.old.texts.kept_parent dir }
     ensures { ReportsDirectory geometry.now.layout (begin_task geometry.now.layout dir)
         (lines_moment I.Image W.Output image.old workspace.old report.old checking.old)

@@ -2,7 +2,7 @@
 ghost use Rattle.std.specs.Prelude.{◌≡◌, [], ◌∷◌};
 ghost use Rattle.ffs_names.specs.Windows.{CanReadChunks};
 ghost use Rattle.ffs_pathnames.specs.{Gathers.{roled_lines_by, roled_value}, Looks.roled_in};
-ghost use Rattle.ffs_pathnames.specs.{Ready.ReadyToPath, NextChunks.ReadsNext, Moments.{lines_moment, second_reading}};
+ghost use Rattle.ffs_pathnames.specs.{Ready.CanMakePath, NextChunks.ReadsNext, Moments.{lines_moment, second_moment}};
 ghost use Rattle.ffs_pathnames.specs.{DirectoryLines.{ReadsForEntries, ReportsDirectory}, Tasks.entries_task, EntryLines.{PassesEntries, ReportsOneEntry}};
 
 use crate::checking::Checking;
@@ -32,7 +32,7 @@ pub fn report_entries<I: Image, W: Output>(
     directory: &Directory,
     report: &mut Report<'_, W>,
 ) -> Result<(), RunFault>
-    requires { ReadyToPath geometry.now.layout (I.device image.old) workspace.old
+    requires { CanMakePath geometry.now.layout (I.device image.old) workspace.old
         checking.old.texts.kept_parent directory.now.number }
     ensures lines { ReportsDirectory geometry.now.layout
         (entries_task geometry.now.layout directory.now)
@@ -86,8 +86,8 @@ fn next_chunk<I: Image>(
 ) -> Result<Option<u64>, ImageFault>
     requires { CanReadChunks chunks.old.walk.geometry.layout (I.device image.old)
         windows.old.blocks windows.old.current }
-    ensures { ReadsNext (second_reading I.Image image.old reads_left.old windows.old chunks.old)
-        (second_reading I.Image image.new reads_left.new windows.new chunks.new) bytes.new result }
+    ensures { ReadsNext (second_moment I.Image image.old reads_left.old windows.old chunks.old)
+        (second_moment I.Image image.new reads_left.new windows.new chunks.new) bytes.new result }
 {
     let mut limited = LimitedImage::new(image, *reads_left);
     let offset = chunks.next(
@@ -116,7 +116,7 @@ fn report_chunk<I: Image, W: Output>(
     chunk: &DirectoryChunk<'_>,
     report: &mut Report<'_, W>,
 ) -> Result<(), RunFault>
-    requires { ReadyToPath geometry.now.layout (I.device image.old) workspace.old
+    requires { CanMakePath geometry.now.layout (I.device image.old) workspace.old
         texts.old.kept_parent chunk.now.dir }
     ensures { PassesEntries geometry.now.layout chunk.now.dir
         (roled_in geometry.now.layout.order chunk.now)
@@ -148,7 +148,7 @@ fn report_entry<I: Image, W: Output>(
     entry: &DirectoryEntry<'_>,
     report: &mut Report<'_, W>,
 ) -> Result<(), RunFault>
-    requires { ReadyToPath geometry.now.layout (I.device image.old) workspace.old
+    requires { CanMakePath geometry.now.layout (I.device image.old) workspace.old
         texts.old.kept_parent entry.now.dir }
     ensures { PassesEntries geometry.now.layout entry.now.dir (roled_value entry.now ∷ [])
         (lines_moment I.Image W.Output image.old workspace.old report.old texts.old)
@@ -180,7 +180,7 @@ fn report_by_role<I: Image, W: Output>(
     entry: &DirectoryEntry<'_>,
     report: &mut Report<'_, W>,
 ) -> Result<(), RunFault>
-    requires { ReadyToPath geometry.now.layout (I.device image.old) workspace.old
+    requires { CanMakePath geometry.now.layout (I.device image.old) workspace.old
         texts.old.kept_parent entry.now.dir }
     ensures { ReportsOneEntry geometry.now.layout entry.now.dir
         (λ vol. roled_lines_by vol workspace.old entry.now)

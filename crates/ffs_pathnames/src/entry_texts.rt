@@ -2,7 +2,7 @@
 //! first line makes that.
 ghost use Rattle.std.specs.Prelude.{◌≡◌, ℕ, List, Option};
 ghost use Rattle.ffs_volume.specs.declared.Layout.{Layout};
-ghost use Rattle.ffs_pathnames.specs.Ready.{ReadyToPath};
+ghost use Rattle.ffs_pathnames.specs.Ready.{CanMakePath};
 ghost use Rattle.ffs_pathnames.specs.Gathers.{BeginsPath, MakesPath, MakesPathLimited, SparesPath};
 
 use crate::paths::forget_parent;
@@ -56,7 +56,7 @@ fn make_path_unlimited<I: Image>(
     texts: &mut EntryTexts,
     dir: u32,
 ) -> Result<(), ImageFault>
-    requires { ReadyToPath geometry.now.layout (I.device image.old) workspace.old
+    requires { CanMakePath geometry.now.layout (I.device image.old) workspace.old
         texts.old.kept_parent dir }
     ensures makes { MakesPath I.Image geometry.now.layout image.old image.new workspace.old
         workspace.new dir texts.old texts.new result }
@@ -80,7 +80,7 @@ fn make_path<I: Image>(
     texts: &mut EntryTexts,
     dir: u32,
 ) -> Result<(), ImageFault>
-    requires { ReadyToPath geometry.now.layout (I.device image.old) workspace.old
+    requires { CanMakePath geometry.now.layout (I.device image.old) workspace.old
         texts.old.kept_parent dir }
     ensures makes { MakesPathLimited I.Image geometry.now.layout image.old image.new workspace.old
         workspace.new dir texts.old texts.new result }
@@ -111,7 +111,7 @@ pub fn make_path_once<I: Image>(
     texts: &mut EntryTexts,
     dir: u32,
 ) -> Result<(), ImageFault>
-    requires { ReadyToPath geometry.now.layout (I.device image.old) workspace.old
+    requires { CanMakePath geometry.now.layout (I.device image.old) workspace.old
         texts.old.kept_parent dir }
     ensures { BeginsPath I.Image geometry.now.layout image.old image.new workspace.old
         workspace.new dir texts.old texts.new result }

@@ -1,6 +1,6 @@
 //! What the lines of an entry and of a directory show: paths, and what an inode says of itself.
 ghost use Rattle.std.specs.Prelude.{◌≡◌};
-ghost use Rattle.ffs_pathnames.specs.Ready.{ReadyToPath, ReadyWhere, ReadyWith};
+ghost use Rattle.ffs_pathnames.specs.Ready.{CanMakePath, CanIfWanted, CanMakePaths};
 ghost use Rattle.ffs_pathnames.specs.Gathers.{GathersEntry, GathersExtra, GathersOwnPathAndAttr, GathersPathsAndAttr};
 ghost use Rattle.ffs_pathnames.specs.Gathers.{PutsWanted, ReadsAttr, asks_attr, asks_path};
 ghost use Rattle.ffs_layout.specs.Entry.{entry_value};
@@ -41,8 +41,8 @@ pub fn gather_entry<I: Image>(
     entry: &DirectoryEntry<'_>,
     verdict: &Verdict,
 ) -> Result<Attr, ImageFault>
-    requires { ReadyWhere (asks_attr verdict.now) geometry.now.layout entry.now.entry.number
-        (ReadyToPath geometry.now.layout (I.device image.old) workspace.old texts.old.kept_parent
+    requires { CanIfWanted (asks_attr verdict.now) geometry.now.layout entry.now.entry.number
+        (CanMakePath geometry.now.layout (I.device image.old) workspace.old texts.old.kept_parent
         entry.now.dir) }
     ensures { GathersEntry I.Image geometry.now.layout image.old image.new workspace.old
         workspace.new entry.now verdict.now texts.old texts.new result }
@@ -63,7 +63,7 @@ pub fn gather_extra<I: Image>(
     texts: &mut EntryTexts,
     dir: u32,
 ) -> Result<Attr, ImageFault>
-    requires { ReadyToPath geometry.now.layout (I.device image.old) workspace.old
+    requires { CanMakePath geometry.now.layout (I.device image.old) workspace.old
         texts.old.kept_parent dir }
     ensures { GathersExtra I.Image geometry.now.layout image.old image.new workspace.old
         workspace.new dir texts.old texts.new result }
@@ -86,8 +86,8 @@ fn gather_paths_and_attr<I: Image>(
     entry: &Entry<'_>,
     verdict: &Verdict,
 ) -> Result<Attr, ImageFault>
-    requires { ReadyWhere (asks_attr verdict.now) geometry.now.layout entry.now.number
-        (ReadyWith geometry.now.layout (I.device image.old) workspace.old texts.old.kept_parent) }
+    requires { CanIfWanted (asks_attr verdict.now) geometry.now.layout entry.now.number
+        (CanMakePaths geometry.now.layout (I.device image.old) workspace.old texts.old.kept_parent) }
     ensures { GathersPathsAndAttr I.Image geometry.now.layout image.old image.new workspace.old
         workspace.new (entry_value entry.now) verdict.now texts.old texts.new result }
 {
@@ -105,7 +105,7 @@ fn gather_named_path<I: Image>(
     wanted: bool,
     dir: u32,
 ) -> Result<(), ImageFault>
-    requires { ReadyWhere wanted geometry.now.layout dir (ReadyWith geometry.now.layout
+    requires { CanIfWanted wanted geometry.now.layout dir (CanMakePaths geometry.now.layout
         (I.device image.old) workspace.old texts.old.kept_parent) }
     ensures { PutsWanted I.Image geometry.now.layout image.old image.new workspace.old workspace.new
         wanted dir texts.old texts.new result }
@@ -135,7 +135,7 @@ fn gather_own_path_and_attr<I: Image>(
     entry: &Entry<'_>,
     verdict: &Verdict,
 ) -> Result<Attr, ImageFault>
-    requires { ReadyWhere (asks_attr verdict.now) geometry.now.layout entry.now.number
+    requires { CanIfWanted (asks_attr verdict.now) geometry.now.layout entry.now.number
         (CanRead geometry.now.layout (I.device image.old) workspace.old) }
     ensures { GathersOwnPathAndAttr I.Image geometry.now.layout image.old image.new workspace.old
         workspace.new (entry_value entry.now) verdict.now paths.old paths.new result }

@@ -7,7 +7,7 @@ ghost use Rattle.ffs_layout.specs.Entry.{entry_value};
 ghost use Rattle.ffs_workspace.specs.Holds.{HoldsSurvey};
 ghost use Rattle.ffs_report.specs.Progress.{progress};
 ghost use Rattle.ffs_pathnames.specs.HeaderValues.{AreFirstTwo, defects_of_facts, defects_value, dot_value};
-ghost use Rattle.ffs_pathnames.specs.{SaysTreeMessages.SaysTreeMessages, Ready.ReadyToPath, DirectoryLines.ReportsHeader, Moments.lines_moment};
+ghost use Rattle.ffs_pathnames.specs.{SaysTreeMessages.SaysTreeMessages, Ready.CanMakePath, DirectoryLines.ReportsHeader, Moments.lines_moment};
 ghost use Rattle.ffs_volume.specs.Directories.Graph as graph;
 
 use crate::paths::put_path;
@@ -317,7 +317,7 @@ pub fn report_header<I: Image, W: Output>(
     header: HeaderFacts<'_>,
     report: &mut Report<'_, W>,
 ) -> Result<(), RunFault>
-    requires { ReadyToPath geometry.now.layout (I.device image.old) workspace.old kept_parent.old
+    requires { CanMakePath geometry.now.layout (I.device image.old) workspace.old kept_parent.old
         header.attr.number }
     ensures { ReportsHeader geometry.now.layout header.entry
         (lines_moment I.Image W.Output image.old workspace.old report.old kept_parent.old)

@@ -7,10 +7,10 @@ ghost use Rattle.ffs_workspace.specs.Moments.{work_moment};
 ghost use Rattle.ffs_volume.specs.{Costs.DirectoryReads.{directory_cost, directory_runs}, declared.Order.Order};
 ghost use Rattle.ffs_volume.specs.{declared.Role.Role, Directories.{Entries.{Chunk, chunk_of, is_sound}, Roles.Volume}};
 ghost use Rattle.ffs_image.specs.Known.{ForBytes};
-ghost use Rattle.ffs_pathnames.specs.{DirectoryContext.{DirectoryContext, KnowsDirectory}};
-ghost use Rattle.ffs_pathnames.specs.{ReadsLeft.LeftForLook, DirectoryLooks.{IsChunksLook, IsFirstLook, LooksAt, StampsOwn}};
+ghost use Rattle.ffs_pathnames.specs.{KnowsNoted.{KnowsNoted, KnowsDirectory}};
+ghost use Rattle.ffs_pathnames.specs.{ReadsLeft.KnowsForLook, DirectoryLooks.{IsChunksLook, IsFirstLook, LooksAt, StampsOwn}};
 ghost use Rattle.ffs_pathnames.specs.{DirectoryLooks.TakesLook, StartChunks.start_chunk, Looks.{StampsEntries, roled_in}};
-ghost use Rattle.ffs_pathnames.specs.{Ready.ReadyToLook, Sees.{CanLook, CanStamp, Sees, stamps_in}};
+ghost use Rattle.ffs_pathnames.specs.{Ready.CanLookAt, Sees.{CanLook, CanStamp, Sees, stamps_in}};
 ghost use Rattle.ffs_layout.specs.Entry.{entry_value};
 ghost use Rattle.ffs_pathnames.specs.PassedNames as names;
 
@@ -71,15 +71,15 @@ pub fn look_directory<I: Image>(
     dir: u32,
     start: &mut [u8; DIRBLKSIZ],
 ) -> Result<FirstLook, ImageFault>
-    requires { ReadyToLook geometry.now.layout (I.device image.old) workspace.old dir }
+    requires { CanLookAt geometry.now.layout (I.device image.old) workspace.old dir }
     ensures looks { LooksAt geometry.now.layout
-        (LeftForLook geometry.now.layout (I.device image.old) workspace.old dir reads_left.old)
+        (KnowsForLook geometry.now.layout (I.device image.old) workspace.old dir reads_left.old)
         (λ f b. IsFirstLook geometry.now.layout b dir workspace.old f start.new
         × StampsOwn geometry.now.layout b dir workspace.old workspace.new)
         (work_moment I.Image image.old workspace.old) (work_moment I.Image image.new workspace.new)
         result }
     ensures cost { TakesLook
-        (DirectoryContext geometry.now.layout (I.device image.old).contents workspace.old dir)
+        (KnowsNoted geometry.now.layout (I.device image.old).contents workspace.old dir)
         (λ b. directory_cost geometry.now.layout b dir)
         (I.reads image.old) (I.reads image.new) reads_left.old reads_left.new }
 {
@@ -101,15 +101,15 @@ fn look_directory_unlimited<I: Image>(
     dir: u32,
     start: &mut [u8; DIRBLKSIZ],
 ) -> Result<FirstLook, ImageFault>
-    requires { ReadyToLook geometry.now.layout (I.device image.old) workspace.old dir }
+    requires { CanLookAt geometry.now.layout (I.device image.old) workspace.old dir }
     ensures looks { LooksAt geometry.now.layout
-        (DirectoryContext geometry.now.layout (I.device image.old).contents workspace.old dir)
+        (KnowsNoted geometry.now.layout (I.device image.old).contents workspace.old dir)
         (λ f b. IsFirstLook geometry.now.layout b dir workspace.old f start.new
         × StampsOwn geometry.now.layout b dir workspace.old workspace.new)
         (work_moment I.Image image.old workspace.old) (work_moment I.Image image.new workspace.new)
         result }
     ensures cost { ForBytes
-        (DirectoryContext geometry.now.layout (I.device image.old).contents workspace.old dir)
+        (KnowsNoted geometry.now.layout (I.device image.old).contents workspace.old dir)
         (λ b. I.reads image.new ≤ I.reads image.old + directory_cost geometry.now.layout b dir) }
 {
     let inode = workspace.windows.table.inode_by_part(geometry, dir, image)?;
@@ -163,7 +163,7 @@ fn look_chunks<I: Image>(
     directory: &Directory,
     start: &mut [u8; DIRBLKSIZ],
 ) -> Result<ChunksLook, ImageFault>
-    requires { ReadyToLook geometry.now.layout (I.device image.old) workspace.old
+    requires { CanLookAt geometry.now.layout (I.device image.old) workspace.old
         directory.now.number }
     ensures looks { LooksAt geometry.now.layout
         (KnowsDirectory geometry.now.layout (I.device image.old) workspace.old directory.now)

@@ -1,8 +1,10 @@
 //! The lines of a plain or an extra entry.
 ghost use Rattle.ffs_workspace.specs.Moments.{work_moment};
 ghost use Rattle.ffs_volume.specs.Directories.PathnameCheck.{extra_lines};
-ghost use Rattle.ffs_pathnames.specs.{EntryLines.SaysEntryLines, Moments.{lines_moment}, Ready.{ReadyToPath, LinesLeave}};
-ghost use Rattle.ffs_pathnames.specs.{SaysTreeMessages.SaysTreeMessages, Gathers.{HasInodeLists, IsVerdictIn, extra_reported, plain_lines_by}};
+ghost use Rattle.ffs_pathnames.specs.{EntryLines.SaysEntryLines, Moments.{lines_moment}, Ready.{CanMakePath, LinesLeave}};
+ghost use Rattle.ffs_pathnames.specs.{SaysTreeMessages.SaysTreeMessages, Gathers.{IsVerdictIn, extra_reported}};
+ghost use Rattle.ffs_pathnames.specs.Gathers.{plain_lines_by};
+ghost use Rattle.ffs_pathnames.specs.Sees.{HasInodeLists};
 ghost use Rattle.ffs_layout.specs.Entry.{entry_value};
 ghost use Rattle.ffs_report.specs.Progress.{progress};
 
@@ -44,7 +46,7 @@ pub fn report_plain<I: Image, W: Output>(
     entry: &DirectoryEntry<'_>,
     report: &mut Report<'_, W>,
 ) -> Result<(), RunFault>
-    requires ready { ReadyToPath geometry.now.layout (I.device image.old) workspace.old
+    requires ready { CanMakePath geometry.now.layout (I.device image.old) workspace.old
         texts.old.kept_parent entry.now.dir }
     ensures lines { SaysEntryLines geometry.now.layout entry.now.dir
         (λ vol. plain_lines_by vol workspace.old entry.now)
@@ -101,7 +103,7 @@ pub fn report_extra<I: Image, W: Output>(
     entry: &DirectoryEntry<'_>,
     report: &mut Report<'_, W>,
 ) -> Result<(), RunFault>
-    requires { ReadyToPath geometry.now.layout (I.device image.old) workspace.old
+    requires { CanMakePath geometry.now.layout (I.device image.old) workspace.old
         texts.old.kept_parent entry.now.dir }
     ensures lines { SaysEntryLines geometry.now.layout entry.now.dir
         (λ vol. extra_reported vol entry.now)

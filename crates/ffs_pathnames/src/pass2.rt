@@ -8,7 +8,9 @@ ghost use Rattle.ffs_volume.specs.Directories.{PathnameCheck.pathname_lines, Vol
 ghost use Rattle.ffs_volume.specs.{Encodings.Kinds.is_dir_kind, Messages.Kinds.of_tree, Report.Reads.{line_reads, sweep_reads}};
 ghost use Rattle.ffs_volume.specs.Report.Whole.{phase2_messages};
 ghost use Rattle.ffs_workspace.specs.{Found.WithBlockCheck, Holds.{HoldsBlockCheck, bool_at}, Leaves.LeavesBlockCheck, Ready.{CanRead, IsReady}};
-ghost use Rattle.ffs_pathnames.specs.{Before.{root_reported, IsBefore, IsNonePassed}, Gathers.HasInodeLists};
+ghost use Rattle.ffs_pathnames.specs.Before.{KnowsBefore, IsNonePassed};
+ghost use Rattle.ffs_pathnames.specs.Sees.{HasInodeLists};
+ghost use Rattle.ffs_pathnames.specs.RootAnswers.{root_reported};
 ghost use Rattle.ffs_pathnames.specs.{Phase2.{Phase2Ends, Phase2Reads}, RootAnswers.{AnswersRoot, SaidStop, is_go}};
 ghost use Rattle.ffs_pathnames.specs.{DirectoryLines.ReportsTree, Moments.lines_moment, SaysTreeMessages.SaysTreeMessages};
 ghost use Rattle.ffs_survey.specs.Survey.{suspect_at};
@@ -171,7 +173,7 @@ fn check_tree<I: Image, W: Output>(
 
     // Where the check stops after the root, its message was said, and nothing else.
     ensures stop { IfOk result (λ root. is_go root ≡ false → SaidStop
-        (IsBefore geometry.now.layout (I.device image.old).contents workspace.old 2) []
+        (KnowsBefore geometry.now.layout (I.device image.old).contents workspace.old 2) []
         (λ b. map of_tree (pathname_lines (volume_of geometry.now.layout b)))
         (progress W.sink report.old) (progress W.sink report.new)) }
 

@@ -1,7 +1,7 @@
 //! The path of a directory for one line, within a limit on reads.
 ghost use Rattle.std.specs.Prelude.{ℕ, List, Option};
 ghost use Rattle.ffs_volume.specs.declared.Layout.{Layout};
-ghost use Rattle.ffs_pathnames.specs.{Gathers.{PutsPath, SparesPath}, Ready.ReadyToPath};
+ghost use Rattle.ffs_pathnames.specs.{Gathers.{PutsPath, SparesPath}, Ready.CanMakePath};
 ghost use Rattle.ffs_workspace.specs.{declared.workspace.Workspace.Workspace as WorkspaceIn};
 ghost use Rattle.ffs_paths.specs.KeptParents.{HoldsKeptParent};
 
@@ -31,7 +31,7 @@ pub fn put_path<I: Image>(
     dir: u32,
     path: &mut PathText,
 ) -> Result<(), ImageFault>
-    requires { ReadyToPath geometry.now.layout (I.device image.old) workspace.old kept_parent.old
+    requires { CanMakePath geometry.now.layout (I.device image.old) workspace.old kept_parent.old
         dir }
     ensures puts { PutsPath I.Image geometry.now.layout image.old image.new workspace.old
         workspace.new dir path.new.items kept_parent.new result }

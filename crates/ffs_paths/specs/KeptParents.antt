@@ -36,19 +36,19 @@ SamePlaces old new =
     (x : ℕ) → part_in (slice_index new.queue.items x) ≡ part_in (slice_index old.queue.items x)
 
 -- paths can be made: the windows hold what the image gives, and what is kept of the parent is right
-pub record ReadyWith (v : Layout) (d : Device) (w : Workspace) (s : KeptParent) : Type 0 where
+pub record CanMakePaths (v : Layout) (d : Device) (w : Workspace) (s : KeptParent) : Type 0 where
   pub ready : CanRead v d w
   pub kept_parent : HoldsKeptParent v d.contents w s
 
 -- a path of the inode x can be made
-pub record ReadyToPath (v : Layout) (d : Device) (w : Workspace) (s : KeptParent) (x : ℕ) : Type 0 where
+pub record CanMakePath (v : Layout) (d : Device) (w : Workspace) (s : KeptParent) (x : ℕ) : Type 0 where
   pub ready : CanRead v d w
   pub kept_parent : HoldsKeptParent v d.contents w s
   pub number : x < v.ncg * v.ipg
 
 -- a path of the directory `dir` can be made by that of its parent p, which the survey found
 pub record CanKeepChild (v : Layout) (d : Device) (w : Workspace) (s : KeptParent) (p dir : ℕ) : Type 0 where
-  pub ready : ReadyToPath v d w s dir
+  pub ready : CanMakePath v d w s dir
   pub parent : IsParentOf w dir p
 
 -- what a call leaves that makes so many reads at most for a path, where each place is noted; where

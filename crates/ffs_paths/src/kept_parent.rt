@@ -6,7 +6,7 @@ ghost use Rattle.ffs_volume.specs.{declared.Layout.Layout, Directories.Paths.dir
 ghost use Rattle.ffs_workspace.specs.declared.workspace.Workspace.{Workspace as WorkspaceIn};
 ghost use Rattle.ffs_paths.specs.{Climbing.IsParentOf, DirectoryPaths.IsPathOf, Reads.{ForTree}};
 ghost use Rattle.ffs_paths.specs.KeptParents.{CanKeepChild, HasPathOf, HoldsKeptParent, StoresPathOf, kept_moment};
-ghost use Rattle.ffs_paths.specs.KeptParents.{PathCosts, ReadyToPath};
+ghost use Rattle.ffs_paths.specs.KeptParents.{PathCosts, CanMakePath};
 
 use crate::buffer::{PathBuffer, PathText};
 use crate::name::find_name;
@@ -73,7 +73,7 @@ impl KeptParent {
         workspace: &mut Workspace,
         dir: u32,
     ) -> Result<(), ImageFault>
-        requires { ReadyToPath geometry.now.layout (I.device image.old) workspace.old self.old
+        requires { CanMakePath geometry.now.layout (I.device image.old) workspace.old self.old
             dir }
         ensures keeps { StoresPathOf geometry.now.layout dir
             (work_moment I.Image image.old workspace.old)
@@ -134,7 +134,7 @@ impl KeptParent {
         workspace: &mut Workspace,
         dir: u32,
     ) -> Result<DirectoryPath, ImageFault>
-        requires { ReadyToPath geometry.now.layout (I.device image.old) workspace.old self.old
+        requires { CanMakePath geometry.now.layout (I.device image.old) workspace.old self.old
             dir }
         ensures path { IfOk result (λ path.
             ForTree geometry.now.layout (I.device image.old) workspace.old
@@ -164,7 +164,7 @@ impl KeptParent {
         dir: u32,
         text: &mut PathText,
     ) -> Result<(), ImageFault>
-        requires { ReadyToPath geometry.now.layout (I.device image.old) workspace.old self.old
+        requires { CanMakePath geometry.now.layout (I.device image.old) workspace.old self.old
             dir }
         ensures path { OnOk result (ForTree geometry.now.layout (I.device image.old) workspace.old
             (λ g. text.new.items ≡ dir_path g dir)) }

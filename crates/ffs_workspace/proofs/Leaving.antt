@@ -3,7 +3,7 @@ use Rattle.std.{proofs.{Common.{arith, ◌≡◌, ℕ, List, false, true}, lemma
 use Rattle.ffs_volume.specs.{declared.Layout.Layout, Encodings.Links.start_at}
 use Rattle.ffs_workspace.specs.{declared.workspace.Workspace.Workspace, Holds.{HoldsBlockCheck, HoldsCounts}}
 use Rattle.ffs_workspace.specs.Holds.{HoldsFindings, HoldsReferences, HoldsSurvey, HoldsTree, IsFresh}
-use Rattle.ffs_workspace.specs.Leaves.{LeavesBlockCheck, LeavesFindings, LeavesSurvey}
+use Rattle.ffs_workspace.specs.Leaves.{LeavesBlockCheck, LeavesAllButPlaces, LeavesSurvey}
 
 pub leaves_all : (w : Workspace) → LeavesSurvey w w
 leaves_all w = grind arith
@@ -57,7 +57,7 @@ pub counts_same : (v : Layout) (b : List ℕ) (old new : Workspace) → new.refe
 unfolding HoldsCounts
 counts_same v b old new references surveyed named reached parents h = grind arith
 
-pub findings_claims : (v : Layout) (b : List ℕ) (old new : Workspace) → LeavesFindings old new →
+pub findings_claims : (v : Layout) (b : List ℕ) (old new : Workspace) → LeavesAllButPlaces old new →
     HoldsBlockCheck v b old → HoldsBlockCheck v b new
 unfolding HoldsCounts
 findings_claims v b old new s h = grind arith

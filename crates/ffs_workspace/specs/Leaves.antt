@@ -17,7 +17,7 @@ pub record LeavesBlockCheck (old new : Workspace) : Type 0 where
 
 -- so is what the survey of directories found, but for the places of parent entries, of which some may be
 -- noted, and `flags`
-pub record LeavesFindings (old new : Workspace) : Type 0 where
+pub record LeavesAllButPlaces (old new : Workspace) : Type 0 where
   pub block_check : LeavesBlockCheck old new
   pub references : new.references ≡ old.references
   pub surveyed : new.surveyed ≡ old.surveyed
@@ -27,5 +27,5 @@ pub record LeavesFindings (old new : Workspace) : Type 0 where
 
 -- and each place that is noted is right where each one was
 pub record LeavesSurvey (old new : Workspace) : Type 0 where
-  pub findings : LeavesFindings old new
+  pub findings : LeavesAllButPlaces old new
   pub places : (v : Layout) (b : List ℕ) → AreParts v b old.queue.items → AreParts v b new.queue.items

@@ -60,8 +60,8 @@ is_dup_line (Dup fragment inode) = true
 is_dup_line _ = false
 
 -- phase 1b runs: phase 1 reported a DUP
-abbrev pub has_rescan : Layout → List Owner → Bool
-has_rescan v os = list_any is_dup_line (phase1_lines v os)
+abbrev pub has_dup_lines : Layout → List Owner → Bool
+has_dup_lines v os = list_any is_dup_line (phase1_lines v os)
 
 -- the line names the inode as one with a bad Run or a dup offer
 abbrev pub blames : ℕ → BlockMessage → Bool

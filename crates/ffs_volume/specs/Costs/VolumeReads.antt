@@ -5,7 +5,7 @@ use Rattle.ffs_volume.specs.declared.{Layout.Layout, Step.{Step, TheVariants.{Ru
 use Rattle.ffs_volume.specs.Blocks.{Claims.{Claims, after_owner, after_step, at_next_inode, is_open, no_claims}}
 use Rattle.ffs_volume.specs.{Blocks.Owners.{Owner, owners_of}, Report.Reads.table_blocks}
 use Rattle.std.specs.Prelude.{Bool, length, ◌*◌}
-use Rattle.ffs_volume.specs.{Blocks.BlockCheck.has_rescan, Costs.DirectoryReads.phase2_cost}
+use Rattle.ffs_volume.specs.{Blocks.BlockCheck.has_dup_lines, Costs.DirectoryReads.phase2_cost}
 use Rattle.ffs_volume.specs.Directories.{Connectivity.connectivity_lines, ReferenceCheck.reference_lines}
 use Rattle.ffs_volume.specs.Directories.{PathnameCheck.{continues_after_root, pathname_lines}, Volumes.volume_of}
 use Rattle.ffs_volume.specs.Report.Reads.{group_reads, line_reads}
@@ -38,7 +38,7 @@ volume_scan_reads v image = table_blocks v + indirect_count v image
 
 -- phase 1b reads no more than phase 1 does, and only where phase 1 has a DUP line
 abbrev pub rescan_reads : Layout → (bytes : List ℕ) → ℕ
-rescan_reads v bytes = if has_rescan v (owners_of v bytes) then volume_scan_reads v bytes else 0
+rescan_reads v bytes = if has_dup_lines v (owners_of v bytes) then volume_scan_reads v bytes else 0
 
 -- phase 2 reads directories as `phase2_cost` says, and for each of its messages `line_reads` times
 abbrev pub volume_pathname_reads : Layout → (bytes : List ℕ) → ℕ

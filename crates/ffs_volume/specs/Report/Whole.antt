@@ -6,7 +6,7 @@ use Rattle.ffs_volume.specs.declared.{Layout.Layout, SuperFault.SuperFault, End.
 use Rattle.ffs_volume.specs.declared.End.TheVariants.{Defects, Refused, RootStop, ReadFault, WriteFault, NoMemory}
 use Rattle.ffs_volume.specs.Disk.{Areas.is_reserved, Superblock.Superblock, Outcome.outcome}
 use Rattle.ffs_volume.specs.Blocks.{Inodes.is_file_or_dir, Owners.{owners_of, inode_numbers}, Claims.all_claims}
-use Rattle.ffs_volume.specs.Blocks.{Claims.is_set, BlockCheck.{phase1_lines, phase1b_lines, has_rescan}}
+use Rattle.ffs_volume.specs.Blocks.{Claims.is_set, BlockCheck.{phase1_lines, phase1b_lines, has_dup_lines}}
 use Rattle.ffs_volume.specs.{Groups.GroupCheck.{phase5_lines, is_free_of_kept}, Messages.Kinds.{Message, phase1}}
 use Rattle.ffs_volume.specs.Messages.Kinds.{phase1b, phase2, phase3, phase4, phase5, of_blocks, of_tree, summary}
 use Rattle.ffs_volume.specs.{Messages.Kinds.{has_defect, stops_at_last}, Report.Opening.{super_lines, head_lines}}
@@ -70,7 +70,7 @@ summary_messages image s = summary_of s (file_count s.layout image) (claimed_cou
 
 -- phase 1b, where it runs
 abbrev pub phase1b_messages_if_dups : Layout → List ℕ → List Message
-phase1b_messages_if_dups v image = if has_rescan v (owners_of v image) then phase1b_messages v image else []
+phase1b_messages_if_dups v image = if has_dup_lines v (owners_of v image) then phase1b_messages v image else []
 
 -- phases 3 to 5 and the summary
 unfoldable pub later_phase_lines : List ℕ → Superblock → List Message

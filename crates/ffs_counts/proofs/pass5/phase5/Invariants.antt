@@ -4,7 +4,7 @@ use Rattle.ffs_layout.specs.Super.{superblock_in}
 use Rattle.ffs_report.specs.{PhaseOutcome.{HeadingFirst, SaidOf}, Progress.progress}
 use Rattle.ffs_groups.specs.Inodes.{class_in}
 use Rattle.ffs_workspace.specs.{Found.WithBlockCheck, Ready.KeepsWindows}
-use Rattle.ffs_counts.{specs.{Once.reported_of, Totals.{AreUpTo, AreTotals}}, proofs.GroupText.{free_of, lines_after}}
+use Rattle.ffs_counts.{specs.{Once.reported_of, Totals.{AreSumsOf, AreTotals}}, proofs.GroupText.{free_of, lines_after}}
 use Rattle.ffs_counts.{specs.Records.IsAtRecords, proofs.GroupReads.reads_below}
 use Rattle.ffs_counts.proofs.pass5.phase5.Given as goal
 
@@ -17,7 +17,7 @@ invariant-loop-group g l =
       stays : KeepsWindows v (g.I.Image.device l.image) w l.workspace;
       reads : g.I.Image.reads l.image ≤ g.I.Image.reads l.fn.image + reads_below l.group;
       records : (l.group % records_at_once ≡ 0 → ⊥) → IsAtRecords v l.workspace.windows.table.window l.group;
-      up : AreUpTo l.group l.totals;
+      up : AreSumsOf l.group l.totals;
       totals : AreTotals v (free_of v w) (class_in w.kinds.items) l.group l.totals;
       said : SaidOf (WithBlockCheck v (g.I.Image.device l.fn.image) w)
           (lines_after v l.superblock.cstotal w (reported_of l.once) l.group)

@@ -36,7 +36,7 @@ returns g c =
           sym (gap_ended c.advance.new.self.gap _ seen.gap);
       none = λ b t old.
           let seen = c.in_ok-advance.ensures.found.none c.if-branch.false b (ap (λ d. d.contents) inv.same ∙ t) in
-          none_taken c.advance.new.self.budget _ seen.chunks;
+          none_taken c.advance.new.self.chunks_left _ seen.chunks;
       fault = tt;
       runs = record {
         rises = (same_more went.same inv.kept).runs;

@@ -28,4 +28,4 @@ invariant-chunks g l = let device = g.I.Image.device in record {
 }
 
 abbrev pub decreases-chunks : goal.decreases-chunks
-decreases-chunks g l = l.chunks.budget
+decreases-chunks g l = l.chunks.chunks_left

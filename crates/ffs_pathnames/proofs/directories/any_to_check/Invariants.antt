@@ -1,6 +1,6 @@
 use Rattle.std.proofs.Common.{◌≡◌, ◌<◌, ◌≤◌, ℕ, false, vec_len}
 use Rattle.ffs_workspace.specs.{Holds.bool_at, declared.workspace.Workspace.Workspace}
-use Rattle.ffs_pathnames.specs.Before.{needs_check}
+use Rattle.ffs_pathnames.specs.ChecksNeeded.{needs_check}
 use Rattle.ffs_pathnames.proofs.directories.any_to_check.Given as goal
 
 -- no inode is marked, and none of those below n needs a check

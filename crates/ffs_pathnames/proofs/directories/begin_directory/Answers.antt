@@ -7,8 +7,8 @@ use Rattle.ffs_volume.specs.{Directories.{PathnameCheck.header_lines, Paths.dir_
 use Rattle.ffs_volume.specs.{Costs.DirectoryReads.directory_cost, Encodings.Places.AreNoted}
 use Rattle.ffs_report.proofs.{Reporting.{of_begins, of_reads}, Paying.{paid_answer, paid_failed, paid_beside}}
 use Rattle.ffs_report.proofs.Paying.{paid_fault, paid_none, paid_then}
-use Rattle.ffs_pathnames.specs.{ReadsLeft.LeftForLook, declared.look.FirstLook.FirstLook}
-use Rattle.ffs_pathnames.{specs.DirectoryContext.DirectoryContext, proofs.{Passing.knows_on, Begun.said_same}}
+use Rattle.ffs_pathnames.specs.{ReadsLeft.KnowsForLook, declared.look.FirstLook.FirstLook}
+use Rattle.ffs_pathnames.{specs.KnowsNoted.KnowsNoted, proofs.{Passing.knows_on, Begun.said_same}}
 use Rattle.ffs_pathnames.proofs.{Begun.{fault_same, image_same, starts_are, begun_is}, StampLaws.windows_keep}
 use Rattle.ffs_pathnames.proofs.{StampLaws.{keep_more, noted_kept}, directories.begin_directory.Given.Over}
 use Rattle.ffs_pathnames.proofs.directories.begin_directory.Goals.{After-report_header}
@@ -18,12 +18,12 @@ use Rattle.ffs_layout.specs.Entry.{entry_value}
 use Rattle.ffs_pathnames.proofs.directories.begin_directory.Goals as goal
 
 abbrev Known : (g : Over) → After-report_header g → List ℕ → Type 0
-Known g c = LeftForLook c.args.geometry.now.layout (g.I.Image.device c.args.image.now) c.args.workspace.now c.args.dir
+Known g c = KnowsForLook c.args.geometry.now.layout (g.I.Image.device c.args.image.now) c.args.workspace.now c.args.dir
     c.args.checking.now.reads_left
 
 -- what is known before the lines are printed
 known : (g : Over) (c : After-report_header g) (b : List ℕ) → Known g c b →
-    DirectoryContext c.args.geometry.now.layout (g.I.Image.device c.look_directory.new.image).contents
+    KnowsNoted c.args.geometry.now.layout (g.I.Image.device c.look_directory.new.image).contents
     c.look_directory.new.workspace c.of.result.number b × (c.of.result ≡ attributes_of c.of.result.number
     (inode_of c.args.geometry.now.layout b c.of.result.number))
 known g c b k = rw c.of.ensures (

@@ -8,8 +8,8 @@ use Rattle.ffs_report.proofs.Reporting.{of_begins, of_same, of_part, of_fault, o
 use Rattle.ffs_report.proofs.Paying.{paid_failed, paid_none, paid_then, paid_within}
 use Rattle.ffs_workspace.proofs.Leaving.{queue_leaves}
 use Rattle.ffs_pathnames.proofs.Findings.{findings_kept, findings_more, findings_noted}
-use Rattle.ffs_pathnames.{specs.Before.{IsBeforeNoted, IsBefore}, proofs.{Begun.image_same, Carrying.noted_reported}}
-use Rattle.ffs_pathnames.{proofs.Skipping.{noted_before, unseen}, specs.ReadsLeft.LeftForNext}
+use Rattle.ffs_pathnames.{specs.Before.{KnowsBeforeNoted, KnowsBefore}, proofs.{Begun.image_same, Carrying.noted_reported}}
+use Rattle.ffs_pathnames.{proofs.Skipping.{noted_before, unseen}, specs.ReadsLeft.KnowsForNext}
 use Rattle.ffs_pathnames.proofs.{directories.check_directories.{Given.Over, Goals.After-check_if_needed}, ChecksNeededLaws.flags_kept}
 use Rattle.ffs_pathnames.proofs.ChecksNeededLaws.{look_next, looked_at_next, places_noted}
 use Rattle.ffs_survey.proofs.Costs.{cost_take, costs_rise}
@@ -17,9 +17,9 @@ use Rattle.ffs_names.proofs.{DirCosts.noted_all_within, Limits.costs_within}
 use Rattle.ffs_pathnames.proofs.directories.check_directories.Goals as goal
 
 -- what is known before an inode, and what is left suffices for it
-next : (g : Over) (c : After-check_if_needed g) (b : List ℕ) → IsBefore c.args.geometry.now.layout
+next : (g : Over) (c : After-check_if_needed g) (b : List ℕ) → KnowsBefore c.args.geometry.now.layout
     (g.I.Image.device c.args.image.now).contents c.args.workspace.now 2 b →
-    LeftForNext c.args.geometry.now.layout (g.I.Image.device c.loop-number.image) c.loop-number.workspace
+    KnowsForNext c.args.geometry.now.layout (g.I.Image.device c.loop-number.image) c.loop-number.workspace
     c.loop-number.number c.loop-number.checking.reads_left b
 next g c b k =
     let v = c.args.geometry.now.layout in
@@ -35,7 +35,7 @@ loop-number-init g c =
     let first = c.first_to_check-first in
     let noted = c.in_ok-note_places.ensures in
     let all = λ (b : List ℕ). map of_tree (lines_from (directory_lines (volume_of v b)) 2 (inodes_of v - 2)) in
-    let skipped = λ (b : List ℕ) (k : IsBefore v (g.I.Image.device c.args.image.now).contents c.args.workspace.now 2 b).
+    let skipped = λ (b : List ℕ) (k : KnowsBefore v (g.I.Image.device c.args.image.now).contents c.args.workspace.now 2 b).
     unseen v _ _ b first.result (inodes_of v) c.args.geometry.now.sound first.ensures.range.0
     (omega (arith, first.ensures.range.1, c.inodes-count.ensures)) first.ensures.before k in
     record {
@@ -104,7 +104,7 @@ loop-number-preserved g c =
           let kept = ok.spends b (next g at b k) in
           omega (arith, inv.left b k, taken, kept);
       paid = paid_then inv.paid ok.paid;
-      before = λ b k. subst (λ d. IsBeforeNoted v (g.I.Image.device c.args.image.now).contents c.check_if_needed.new.workspace d
+      before = λ b k. subst (λ d. KnowsBeforeNoted v (g.I.Image.device c.args.image.now).contents c.check_if_needed.new.workspace d
           b) q
           (noted_reported (sym (ap (λ d. d.contents) inv.device)) (ok.holds b (next g at b k)).0);
       said = of_part inv.said

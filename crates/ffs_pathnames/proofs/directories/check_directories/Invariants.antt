@@ -5,21 +5,21 @@ use Rattle.ffs_volume.specs.{Messages.Kinds.{of_tree, lines_from}, Report.Reads.
 use Rattle.ffs_volume.specs.{Directories.{PathnameCheck.directory_lines, Volumes.volume_of}, Blocks.Inodes.inodes_of}
 use Rattle.ffs_volume.specs.Costs.DirectoryReads.{is_looked_at, places_cost, costs_all, costs_below, directories_cost}
 use Rattle.ffs_volume.specs.Costs.DirectoryReads.{directory_cost}
-use Rattle.ffs_pathnames.specs.{ChecksNeeded.ChecksLookedAt, Ready.ReadyWith, Before.{IsBefore, IsBeforeNoted}}
-use Rattle.ffs_workspace.specs.Leaves.{LeavesFindings}
+use Rattle.ffs_pathnames.specs.{ChecksNeeded.ChecksLookedAt, Ready.CanMakePaths, Before.{KnowsBefore, KnowsBeforeNoted}}
+use Rattle.ffs_workspace.specs.Leaves.{LeavesAllButPlaces}
 use Rattle.ffs_pathnames.proofs.directories.check_directories.Given as goal
 
 abbrev pub invariant-loop-number : goal.invariant-loop-number
 invariant-loop-number g l =
     let v = l.geometry.layout in
-    let known = IsBefore v (g.I.Image.device l.fn.image).contents l.fn.workspace 2 in
+    let known = KnowsBefore v (g.I.Image.device l.fn.image).contents l.fn.workspace 2 in
     let all = λ (b : List ℕ). lines_from (directory_lines (volume_of v b)) 2 (inodes_of v - 2) in
     let to_come = λ (b : List ℕ). lines_from (directory_lines (volume_of v b)) l.number (inodes_of v - l.number) in
     record {
-      ready : ReadyWith v (g.I.Image.device l.image) l.workspace l.checking.texts.kept_parent;
+      ready : CanMakePaths v (g.I.Image.device l.image) l.workspace l.checking.texts.kept_parent;
       device : g.I.Image.device l.image ≡ g.I.Image.device l.fn.image;
       low : 2 ≤ l.number;
-      findings : LeavesFindings l.fn.workspace l.workspace;
+      findings : LeavesAllButPlaces l.fn.workspace l.workspace;
       reads : ForBytes known (λ b. g.I.Image.reads l.image + line_reads * length (to_come b)
           ≤ g.I.Image.reads l.fn.image
           + (directories_cost v b + 2 * costs_all (directory_cost v b) l.number + line_reads * length (all b)));
@@ -33,7 +33,7 @@ invariant-loop-number g l =
       paid : Paid {T = Unit {0}} line_reads (progress g.W.Output.sink l.fn.report)
           (progress g.W.Output.sink l.report) (g.I.Image.reads l.fn.image + 3 * sweep_reads v)
           (g.I.Image.reads l.image + l.checking.reads_left) (Ok tt);
-      before : ForBytes known (λ b. IsBeforeNoted v (g.I.Image.device l.fn.image).contents l.workspace l.number b);
+      before : ForBytes known (λ b. KnowsBeforeNoted v (g.I.Image.device l.fn.image).contents l.workspace l.number b);
       said : SaidOf known (λ b. map of_tree (to_come b)) (λ b. map of_tree (all b))
           (progress g.W.Output.sink l.fn.report) (progress g.W.Output.sink l.report);
     }

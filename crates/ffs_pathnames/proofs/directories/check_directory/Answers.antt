@@ -7,30 +7,31 @@ use Rattle.ffs_volume.specs.Costs.DirectoryReads.{directory_cost, directory_runs
 use Rattle.ffs_report.proofs.Reporting.{of_begins, of_part, of_fault, of_last}
 use Rattle.ffs_report.proofs.{Reporting.{said_knows, reports_knowing}, Paying.{paid_answer, paid_fault, paid_then}}
 use Rattle.ffs_workspace.specs.declared.workspace.Workspace.{Workspace}
-use Rattle.ffs_pathnames.specs.{declared.look.FirstLook.FirstLook, Gathers.passed_of, PassedNames.PassedNames}
+use Rattle.ffs_pathnames.specs.{declared.look.FirstLook.FirstLook, PassedNames.PassedNames}
+use Rattle.ffs_pathnames.specs.Sees.{passed_of}
 use Rattle.ffs_pathnames.{specs.PassedNames.{entries_reported, is_flagged}, proofs.Begun.{image_same, said_same}}
 use Rattle.ffs_pathnames.proofs.Begun.{directory_is, lines_parts, quiet_parts, reported_parts, quiet_after}
 use Rattle.ffs_pathnames.proofs.{Begun.{reported_after, starts_within}, Passing.knows_on, ReadyLaws.leaves_after}
 use Rattle.ffs_pathnames.proofs.{StampLaws.noted_kept, LineCounts.{checked_twice, lines_long}}
-use Rattle.ffs_pathnames.{proofs.ChecksNeededLaws.flags_after, specs.ReadsLeft.{LeftForBoth, LeftForLook, LeftForRuns}}
+use Rattle.ffs_pathnames.{proofs.ChecksNeededLaws.flags_after, specs.ReadsLeft.{KnowsForBoth, KnowsForLook, KnowsForRuns}}
 use Rattle.ffs_pathnames.proofs.directories.check_directory.{Given.Over, Goals.{After-begin_directory, After-report_entries}}
 use Rattle.ffs_names.proofs.DirCosts.{cost_is as cost_of_dir}
 use Rattle.ffs_pathnames.proofs.directories.check_directory.Goals as goal
 
 abbrev Known : (g : Over) → After-begin_directory g → List ℕ → Type 0
-Known g c = LeftForBoth c.args.geometry.now.layout (g.I.Image.device c.args.image.now) c.args.workspace.now c.args.dir
+Known g c = KnowsForBoth c.args.geometry.now.layout (g.I.Image.device c.args.image.now) c.args.workspace.now c.args.dir
     c.args.checking.now.reads_left
 
 -- what is left suffices for the first look
-first : {v : Layout} {d : Device} {w : Workspace} {x left : ℕ} {b : List ℕ} → LeftForBoth v d w x left b →
-    LeftForLook v d w x left b
+first : {v : Layout} {d : Device} {w : Workspace} {x left : ℕ} {b : List ℕ} → KnowsForBoth v d w x left b →
+    KnowsForLook v d w x left b
 first k = (k.knows, omega (arith, k.enough))
 
 -- and what it leaves for the second
 second : (g : Over) (c : After-report_entries g) (b : List ℕ) →
-    LeftForBoth c.args.geometry.now.layout (g.I.Image.device c.args.image.now) c.args.workspace.now c.args.dir
+    KnowsForBoth c.args.geometry.now.layout (g.I.Image.device c.args.image.now) c.args.workspace.now c.args.dir
     c.args.checking.now.reads_left b →
-    LeftForRuns c.args.geometry.now.layout (g.I.Image.device c.begin_directory.new.image)
+    KnowsForRuns c.args.geometry.now.layout (g.I.Image.device c.begin_directory.new.image)
     c.begin_directory.new.workspace (record { number = c.args.dir; inode = c.in_ok-looked.looked.inode })
     c.begin_directory.new.checking.reads_left b
 second g c b k =

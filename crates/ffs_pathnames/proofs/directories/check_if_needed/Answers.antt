@@ -5,12 +5,12 @@ use Rattle.ffs_volume.specs.{declared.Layout.Layout, Messages.Kinds.of_tree}
 use Rattle.ffs_workspace.{specs.declared.workspace.Workspace.Workspace, proofs.Leaving.leaves_all}
 use Rattle.ffs_report.proofs.{Paying.paid_none, Reporting.{of_begins, of_same, reports_same, reports_knowing}}
 use Rattle.ffs_pathnames.proofs.Carrying.{directory_context, lines_looked, lines_skipped, noted_next, before_skipped}
-use Rattle.ffs_pathnames.specs.ReadsLeft.{LeftForBoth, LeftForNext}
+use Rattle.ffs_pathnames.specs.ReadsLeft.{KnowsForBoth, KnowsForNext}
 use Rattle.ffs_pathnames.proofs.directories.check_if_needed.Goals as goal
 
 -- what is known of a directory that is looked at
 both : {v : Layout} {device : Device} {w : Workspace} {d left : ℕ} {b : List ℕ} →
-    (slice_index w.kinds.items d == 4) ≡ true → LeftForNext v device w d left b → LeftForBoth v device w d left b
+    (slice_index w.kinds.items d == 4) ≡ true → KnowsForNext v device w d left b → KnowsForBoth v device w d left b
 both looked k = record { knows = directory_context looked k.0; passed = k.0.before.passed; enough = k.1 }
 
 pub returns-then-needs_check-clause-lines : goal.returns-then-needs_check-clause-lines

@@ -1,5 +1,5 @@
 use Rattle.std.proofs.Common.{◌≡◌, ◌<◌, ◌≤◌, ℕ, false}
-use Rattle.ffs_pathnames.specs.Before.{needs_check}
+use Rattle.ffs_pathnames.specs.ChecksNeeded.{needs_check}
 use Rattle.ffs_pathnames.proofs.directories.first_to_check.Given as goal
 
 abbrev pub invariant-loop-number : goal.invariant-loop-number

@@ -34,7 +34,7 @@ returns-then-is_spent g c =
     record {
       chunk = record {
         chunk = λ held b t enough. absurd (answered g at b t held enough spent);
-        budget = tt;
+        chunks_left = tt;
       };
       takes = record {
         reads = λ held b t enough. absurd (answered g at b t held enough spent);
@@ -55,8 +55,8 @@ returns g c = record {
   chunk =
       let at = (goal.at.returns g c).After-is_spent in
       if_both c.next-offset.result _ _ _
-      (λ o h budget. record { chunk = λ held b t enough. h b (bytes g at b t); budget = budget })
-      c.next-offset.ensures.chunk (budget_falls c.next-offset.result _ _ c.next-offset.ensures.leaves.budget);
+      (λ o h chunks_left. record { chunk = λ held b t enough. h b (bytes g at b t); chunks_left = chunks_left })
+      c.next-offset.ensures.chunk (budget_falls c.next-offset.result _ _ c.next-offset.ensures.leaves.chunks_left);
   takes = record {
     reads = λ held b t enough. grind (arith, after, taken_below, bytes);
     spends = λ held b t enough. grind (arith, taken_left, bytes, after);

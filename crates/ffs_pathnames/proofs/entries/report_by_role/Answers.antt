@@ -2,13 +2,13 @@ use Rattle.std.proofs.Common.{◌≡◌, arith, refl, ℕ, List, [], Ok, inl, in
 use Rattle.ffs_workspace.specs.Moments.{WorkMoment}
 use Rattle.ffs_volume.specs.{declared.Layout.Layout, Directories.Roles.Volume, Messages.Kinds.{TreeMessage}}
 use Rattle.ffs_report.{specs.Progress.Progress, proofs.{Reporting.says_none, Paying.paid_none}}
-use Rattle.ffs_pathnames.specs.{EntryLines.ReportsOneEntry, Moments.{LinesMoment}, Ready.ReadyToPath, PassedNames.roled_reported}
+use Rattle.ffs_pathnames.specs.{EntryLines.ReportsOneEntry, Moments.{LinesMoment}, Ready.CanMakePath, PassedNames.roled_reported}
 use Rattle.ffs_pathnames.{specs.declared.entry_texts.EntryTexts.EntryTexts}
 use Rattle.ffs_pathnames.proofs.entries.report_by_role.Goals as goal
 
 -- where there is no line, nothing changes
 nothing_said : {v : Layout} {at : WorkMoment} {x : ℕ} {t : EntryTexts} {lines : Volume → List TreeMessage}
-    {said : Progress} → ReadyToPath v at.image at.workspace t.kept_parent x → ((vol : Volume) → lines vol ≡ []) →
+    {said : Progress} → CanMakePath v at.image at.workspace t.kept_parent x → ((vol : Volume) → lines vol ≡ []) →
     let now : LinesMoment EntryTexts = record { at = at; report = said; kept = t } in
     ReportsOneEntry {T = Unit {0}} v x lines now now (Ok tt)
 nothing_said r none = grind (arith, says_none, paid_none)

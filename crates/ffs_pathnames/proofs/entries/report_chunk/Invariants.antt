@@ -5,9 +5,10 @@ use Rattle.ffs_report.specs.{Paid.Paid, PhaseOutcome.SaidOf, Progress.progress}
 use Rattle.ffs_image.specs.Known.{ForBytes}
 use Rattle.ffs_workspace.specs.Leaves.{LeavesSurvey}
 use Rattle.ffs_names.specs.EntriesToCome.{roled_to_come}
-use Rattle.ffs_pathnames.specs.{Ready.ReadyWith, Gathers.passed_of, Stamps.KeepParts, PassedNames.after_entries}
+use Rattle.ffs_pathnames.specs.{Ready.CanMakePaths, Stamps.KeepParts, PassedNames.after_entries}
+use Rattle.ffs_pathnames.specs.Sees.{passed_of}
 use Rattle.ffs_pathnames.specs.{PassedNames.entries_reported, LineReads.{again_reads, path_owed}}
-use Rattle.ffs_pathnames.{proofs.LineCounts.HasRead, specs.DirectoryContext.{BeginsPathOf, DirectoryContext, KnowsPath}}
+use Rattle.ffs_pathnames.{proofs.LineCounts.HasRead, specs.KnowsNoted.{BeginsPathOf, KnowsNoted, KnowsPath}}
 use Rattle.ffs_pathnames.proofs.entries.report_chunk.Given as goal
 
 abbrev pub invariant-entries : goal.invariant-entries
@@ -15,14 +16,14 @@ invariant-entries g l =
     let reported_by = g.I.Image.device in
     let v = l.geometry.layout in
     let x = l.chunk in
-    let known = DirectoryContext v (reported_by l.fn.image).contents l.fn.workspace x.dir in
+    let known = KnowsNoted v (reported_by l.fn.image).contents l.fn.workspace x.dir in
     let knows_path = KnowsPath v (reported_by l.fn.image).contents l.fn.workspace x.dir l.fn.texts in
     let entries = roled_from x.at_start 0 (entries_of v.order x.bytes.now) in
     let left = roled_to_come x.at_start l.entries in
     let all = λ (b : List ℕ). entries_reported (volume_of v b) x.dir (passed_of l.fn.workspace) entries in
     let to_come = λ (b : List ℕ). entries_reported (volume_of v b) x.dir (passed_of l.workspace) left in
     record {
-      ready : ReadyWith v (reported_by l.image) l.workspace l.texts.kept_parent;
+      ready : CanMakePaths v (reported_by l.image) l.workspace l.texts.kept_parent;
       device : reported_by l.image ≡ reported_by l.fn.image;
       survey : LeavesSurvey l.fn.workspace l.workspace;
       places : KeepParts l.fn.workspace.queue.items l.workspace.queue.items;

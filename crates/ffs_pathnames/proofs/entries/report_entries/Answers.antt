@@ -9,17 +9,18 @@ use Rattle.ffs_names.{specs.{Readings.rest, Costs.{to_read, HoldsReading}}, proo
 use Rattle.ffs_volume.specs.Costs.DirectoryReads.{directory_runs}
 use Rattle.ffs_report.proofs.Reporting.{of_begins, of_reads, of_same, of_part, of_fault, said_knows, reports_knowing}
 use Rattle.ffs_report.proofs.Paying.{paid_beside, paid_failed, paid_none, paid_then, paid_within}
-use Rattle.ffs_pathnames.specs.{Gathers.passed_of, DirectoryContext.DirectoryContext, PassedNames.after_entries}
+use Rattle.ffs_pathnames.specs.{KnowsNoted.KnowsNoted, PassedNames.after_entries}
+use Rattle.ffs_pathnames.specs.Sees.{passed_of}
 use Rattle.ffs_pathnames.{specs.PassedNames.entries_reported, proofs.StampLaws.{keep_more, noted_kept}}
 use Rattle.ffs_pathnames.proofs.{Passing.{chunk_reported, chunk_passed, knows_on, all_read}}
-use Rattle.ffs_pathnames.{proofs.ReadyLaws.{can_read_in, leaves_after, windows_next, windows_read}, specs.ReadsLeft.LeftForRuns}
+use Rattle.ffs_pathnames.{proofs.ReadyLaws.{can_read_in, leaves_after, windows_next, windows_read}, specs.ReadsLeft.KnowsForRuns}
 use Rattle.ffs_pathnames.proofs.{LineCounts.lines_long, SeesLaws.cut_here}
 use Rattle.ffs_pathnames.proofs.entries.report_entries.{Given.Over, Goals.After-next_chunk}
 use Rattle.ffs_pathnames.proofs.entries.report_entries.Goals as goal
 
 -- what is known of the bytes, at the beginning
 abbrev Known : (g : Over) → After-next_chunk g → List ℕ → Type 0
-Known g c = LeftForRuns c.args.geometry.now.layout (g.I.Image.device c.args.image.now) c.args.workspace.now
+Known g c = KnowsForRuns c.args.geometry.now.layout (g.I.Image.device c.args.image.now) c.args.workspace.now
     c.args.directory.now c.args.checking.now.reads_left
 
 -- these are the bytes of the image as it is now
@@ -45,7 +46,7 @@ kept_between g c = leaves_more c.chunks.invariant.survey (windows_leave c.chunks
 
 -- what is known there
 know : (g : Over) (c : After-next_chunk g) → g.I.Image.device c.next_chunk.new.image ≡ g.I.Image.device c.chunks.image →
-    (b : List ℕ) → Known g c b → DirectoryContext c.args.geometry.now.layout
+    (b : List ℕ) → Known g c b → KnowsNoted c.args.geometry.now.layout
     (g.I.Image.device c.next_chunk.new.image).contents (between g c) c.args.directory.now.number b
 know g c read b k = knows_on c.args.geometry.now.layout (g.I.Image.device c.args.image.now).contents
     (g.I.Image.device c.next_chunk.new.image).contents c.args.workspace.now (between g c) c.args.directory.now.number b
@@ -56,7 +57,7 @@ chunks-init g c =
     let v = c.args.geometry.now.layout in
     let x = c.args.directory.now in
     let m = passed_of c.args.workspace.now in
-    let known = LeftForRuns v (g.I.Image.device c.args.image.now) c.args.workspace.now x
+    let known = KnowsForRuns v (g.I.Image.device c.args.image.now) c.args.workspace.now x
     c.args.checking.now.reads_left in
     let cut = λ (b : List ℕ) (k : known b). cut_here x.number c.args.geometry.now.sound c.noted_cut-cut.ensures k.0.0.claims in
     let seen = λ (b : List ℕ) (k : known b). all_read v b x.number x.inode c.noted_cut-cut.result (rest b c.start-chunks.result)

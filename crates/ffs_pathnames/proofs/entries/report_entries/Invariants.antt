@@ -2,8 +2,9 @@ use Rattle.std.{proofs.Common.{◌≡◌, ℕ, List, map, ◌+◌, ◌*◌, ◌�
 use Rattle.ffs_volume.specs.{Messages.Kinds.of_tree, Report.Reads.{line_reads, path_reads}}
 use Rattle.ffs_volume.specs.Directories.{Naming.graph_of, Roles.{roled_chunk, roled_entries}, Volumes.volume_of}
 use Rattle.ffs_volume.specs.{Costs.DirectoryReads.directory_runs, Encodings.Places.AreNoted}
-use Rattle.ffs_pathnames.specs.{LineReads.{again_reads, path_owed}, Ready.ReadyWith, Gathers.passed_of}
-use Rattle.ffs_pathnames.specs.{Stamps.KeepParts, DirectoryContext.BeginsPathOf, ReadsLeft.LeftForRuns}
+use Rattle.ffs_pathnames.specs.{LineReads.{again_reads, path_owed}, Ready.CanMakePaths}
+use Rattle.ffs_pathnames.specs.Sees.{passed_of}
+use Rattle.ffs_pathnames.specs.{Stamps.KeepParts, KnowsNoted.BeginsPathOf, ReadsLeft.KnowsForRuns}
 use Rattle.ffs_pathnames.specs.PassedNames.{after_entries, entries_reported}
 use Rattle.ffs_report.specs.{Paid.Paid, PhaseOutcome.SaidOf, Progress.progress}
 use Rattle.ffs_image.specs.Known.{ForBytes}
@@ -16,13 +17,13 @@ invariant-chunks g l =
     let reported_by = g.I.Image.device in
     let v = l.geometry.layout in
     let x = l.directory in
-    let known = LeftForRuns v (reported_by l.fn.image) l.fn.workspace x l.fn.checking.reads_left in
+    let known = KnowsForRuns v (reported_by l.fn.image) l.fn.workspace x l.fn.checking.reads_left in
     let all = λ (b : List ℕ).
     entries_reported (volume_of v b) x.number (passed_of l.fn.workspace) (roled_entries (volume_of v b) x.number) in
     let to_come = λ (b : List ℕ).
     entries_reported (volume_of v b) x.number (passed_of l.workspace) (flat_map roled_chunk (rest b l.chunks)) in
     record {
-      ready : ReadyWith v (reported_by l.image) l.workspace l.checking.texts.kept_parent;
+      ready : CanMakePaths v (reported_by l.image) l.workspace l.checking.texts.kept_parent;
       device : reported_by l.image ≡ reported_by l.fn.image;
       geometry : l.chunks.walk.geometry ≡ l.geometry;
       survey : LeavesSurvey l.fn.workspace l.workspace;
@@ -50,4 +51,4 @@ invariant-chunks g l =
     }
 
 abbrev pub decreases-chunks : goal.decreases-chunks
-decreases-chunks g l = l.chunks.budget
+decreases-chunks g l = l.chunks.chunks_left

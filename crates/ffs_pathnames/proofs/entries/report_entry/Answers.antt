@@ -2,7 +2,8 @@ use Rattle.std.proofs.{Common.{ap, refl, ◌∙◌}, lemmas.{Result.err_from_is_
 use Rattle.ffs_volume.specs.Directories.Volumes.{volume_of}
 use Rattle.ffs_workspace.{specs.declared.workspace.Workspace.Workspace, proofs.Leaving.{claims_left, survey_left}}
 use Rattle.ffs_workspace.proofs.Leaving.{leaves_more, windows_leave}
-use Rattle.ffs_pathnames.{specs.Gathers.{passed_of, roled_value}, proofs.{EntryReports.one_entry, Passing.passes, SeesLaws.sees}}
+use Rattle.ffs_pathnames.{specs.Gathers.roled_value, proofs.{EntryReports.one_entry, Passing.passes, SeesLaws.sees}}
+use Rattle.ffs_pathnames.specs.Sees.{passed_of}
 use Rattle.ffs_pathnames.proofs.{ReadyLaws.ready_passed, StampLaws.{keep_more, names_leave, windows_keep}}
 use Rattle.ffs_paths.proofs.Keeping.{kept_parent_on}
 use Rattle.ffs_report.proofs.Paying.{paid_answer}

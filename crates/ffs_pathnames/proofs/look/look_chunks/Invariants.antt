@@ -4,7 +4,8 @@ use Rattle.ffs_volume.specs.Directories.{Roles.roled_chunk, PathnameCheck.are_so
 use Rattle.ffs_volume.specs.{Blocks.Steps.steps_of, Encodings.Replay.{fresh_replay, replayed_steps}}
 use Rattle.ffs_volume.specs.Encodings.ReplayCounts.{replayed_runs}
 use Rattle.ffs_names.specs.{Windows.CanReadChunks, Readings.{rest, gap_left}, Costs.{to_read, HoldsReading}}
-use Rattle.ffs_pathnames.specs.{Gathers.passed_of, PassedNames.{are_quiet, after_looks}, Stamps.{KeepsWords, stamps_of}}
+use Rattle.ffs_pathnames.specs.{PassedNames.{are_quiet, after_looks}, Stamps.{KeepsWords, stamps_of}}
+use Rattle.ffs_pathnames.specs.Sees.{passed_of}
 use Rattle.ffs_pathnames.{specs.StartChunks.start_chunk, proofs.SeesLaws.chunks_read}
 use Rattle.ffs_workspace.specs.Holds.{HoldsBlockCheck, HoldsSurvey}
 use Rattle.ffs_pathnames.proofs.look.look_chunks.Given as goal
@@ -42,4 +43,4 @@ invariant-chunks g l =
     }
 
 abbrev pub decreases-chunks : goal.decreases-chunks
-decreases-chunks g l = l.chunks.budget
+decreases-chunks g l = l.chunks.chunks_left

@@ -4,7 +4,8 @@ use Rattle.std.proofs.lemmas.{Result.err_from_is_err_and, Bool.{both_ways, cases
 use Rattle.ffs_workspace.specs.Moments.{WorkMoment}
 use Rattle.ffs_workspace.specs.{Holds.HoldsBlockCheck, Ready.CanRead, declared.workspace.Workspace.Workspace}
 use Rattle.ffs_pathnames.proofs.Findings.{findings_kept}
-use Rattle.ffs_pathnames.{specs.Before.{IsBefore, root_reported}, proofs.{LineCounts.lines_long, Carrying.goes_is}}
+use Rattle.ffs_pathnames.{specs.Before.KnowsBefore, proofs.{LineCounts.lines_long, Carrying.goes_is}}
+use Rattle.ffs_pathnames.specs.RootAnswers.{root_reported}
 use Rattle.ffs_pathnames.proofs.Carrying.{root_kind_is, root_marked_is, tree_is, tree_lines}
 use Rattle.ffs_pathnames.proofs.pass2.check_tree.{Given.Over, Goals.After-report_root}
 use Rattle.ffs_pathnames.specs.{DirectoryLines.ReportsTree, RootAnswers.AnswersRoot}
@@ -36,13 +37,13 @@ lines_are g c b goes h q = search (arith, tree_is, kind_is, root_marked_is)
 
 -- the answer is that of the volume
 goes : (g : Over) (c : After-report_root g) (b : List ℕ) →
-    IsBefore c.args.geometry.now.layout (g.I.Image.device c.args.image.now).contents c.args.workspace.now 2 b →
+    KnowsBefore c.args.geometry.now.layout (g.I.Image.device c.args.image.now).contents c.args.workspace.now 2 b →
     is_dir_kind c.index-kind.result.now ≡ continues_after_root (volume_of c.args.geometry.now.layout b)
 goes g c b k = goes_is c.args.geometry.now.layout b c.args.workspace.now _ (kind_is g c) k.claims
 
 -- a read failed where the run continues
 read_where_goes : {v : Layout} (d : Device) {w : Workspace} (fault : RunFault) →
-    ForBytes (IsBefore v d.contents w 2) (λ b. continues_after_root (volume_of v b) ≡ true) →
+    ForBytes (KnowsBefore v d.contents w 2) (λ b. continues_after_root (volume_of v b) ≡ true) →
     AnswersRoot v d w (Err fault)
 read_where_goes d (Read fault) on = on
 read_where_goes d (Out fault) on = tt
@@ -72,7 +73,7 @@ few_more all root tree before after cost is few = let long = lines_long _ _ _ is
 -- what is said, what is read for it, and what is left, where nothing is read
 only_said : {T : Type 0} {v : Layout} {d : Device} {w : Workspace} {lines : Volume → List TreeMessage}
     {said said' : Progress} {count : ℕ} (r : Result T RunFault) → ImageAfter d d r → CanRead v d w →
-    PhaseReports (IsBefore v d.contents w 2) (λ b. map of_tree (lines (volume_of v b))) said said' r →
+    PhaseReports (KnowsBefore v d.contents w 2) (λ b. map of_tree (lines (volume_of v b))) said said' r →
     let at : WorkMoment = record { image = d; reads = count; workspace = w } in
     ReportsTree v lines (record { at = at; report = said; kept = tt }) (record { at = at; report = said'; kept = tt }) r
 only_said {w = w} r image ready text = let kept = findings_kept w in grind (arith, paid_text)

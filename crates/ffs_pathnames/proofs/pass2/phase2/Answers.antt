@@ -10,7 +10,7 @@ use Rattle.ffs_report.proofs.Reports.{said_then}
 use Rattle.ffs_volume.specs.{Messages.Kinds.{phase2, Message, of_tree}, declared.Layout.Layout}
 use Rattle.ffs_volume.{proofs.RunBounds.runs_bounded, specs.Directories.PathnameCheck.pathname_lines}
 use Rattle.ffs_volume.specs.Directories.Volumes.{volume_of}
-use Rattle.ffs_pathnames.specs.{declared.pass2.Root.{Root, TheVariants.{Go, Stop}}, Before.IsBefore, Phase2.Phase2Ends, RootAnswers.AnswersRoot}
+use Rattle.ffs_pathnames.specs.{declared.pass2.Root.{Root, TheVariants.{Go, Stop}}, Before.KnowsBefore, Phase2.Phase2Ends, RootAnswers.AnswersRoot}
 use Rattle.ffs_pathnames.{specs.RootAnswers.{SaidStop, is_go}, proofs.Carrying.{before_first, goes_is, references_on}}
 use Rattle.ffs_pathnames.proofs.{SilentLaws.calm_silent, pass2.phase2.{Given.Over, Goals.After-check_tree}}
 use Rattle.ffs_pathnames.proofs.ChecksNeededLaws.{looked_at_first}
@@ -24,7 +24,7 @@ use Rattle.ffs_pathnames.proofs.pass2.phase2.Goals as goal
 -- what is known before the first directory
 before_tree : (g : Over) (c : After-check_tree g) (b : List ℕ) →
     WithBlockCheck c.args.geometry.now.layout (g.I.Image.device c.args.image.now) c.args.workspace.now b →
-    IsBefore c.args.geometry.now.layout (g.I.Image.device c.survey.new.image).contents
+    KnowsBefore c.args.geometry.now.layout (g.I.Image.device c.survey.new.image).contents
     c.clear_passed_and_windows.new.workspace 2 b
 before_tree g c b k =
     let v = c.args.geometry.now.layout in
@@ -48,10 +48,10 @@ claims_after g c b k =
 
 -- the phase ends as the check of the tree does
 ends_by : (v : Layout) (d d' : Device) (old w new : Workspace) (before after : Progress) (r : Result Root RunFault) →
-    ForBytes (WithBlockCheck v d old) (IsBefore v d'.contents w 2) →
+    ForBytes (WithBlockCheck v d old) (KnowsBefore v d'.contents w 2) →
     ForBytes (WithBlockCheck v d old) (λ b. HoldsReferences v b new) →
     ForBytes (WithBlockCheck v d old) (λ b. HoldsBlockCheck v b new) → AnswersRoot v d' w r →
-    OnOk r (ForBytes (IsBefore v d'.contents w 2) (λ b. HoldsBlockCheck v b new × HoldsSurvey v b new)) →
+    OnOk r (ForBytes (KnowsBefore v d'.contents w 2) (λ b. HoldsBlockCheck v b new × HoldsSurvey v b new)) →
     IfOk r (λ root. is_go root ≡ false → SaidStop (WithBlockCheck v d old) (phase2 ∷ [])
     (λ b. phase2 ∷ map of_tree (pathname_lines (volume_of v b))) before after) → Phase2Ends v d old new before after r
 ends_by v d d' old w new before after (Ok root) more references claims answer holds stop = ends root answer stop
@@ -72,8 +72,8 @@ ends_by v d d' old w new before after (Err (Out fault)) more references claims a
 
 -- after the heading the root's message is said
 stop_after : (v : Layout) (d d' : Device) (old w : Workspace) (a b c : Progress) (r : Result Root RunFault) →
-    ForBytes (WithBlockCheck v d old) (IsBefore v d'.contents w 2) → Said a b (phase2 ∷ []) →
-    IfOk r (λ root. is_go root ≡ false → SaidStop (IsBefore v d'.contents w 2) []
+    ForBytes (WithBlockCheck v d old) (KnowsBefore v d'.contents w 2) → Said a b (phase2 ∷ []) →
+    IfOk r (λ root. is_go root ≡ false → SaidStop (KnowsBefore v d'.contents w 2) []
     (λ b. map of_tree (pathname_lines (volume_of v b))) b c) →
     IfOk r (λ root. is_go root ≡ false → SaidStop (WithBlockCheck v d old) (phase2 ∷ [])
     (λ b. phase2 ∷ map of_tree (pathname_lines (volume_of v b))) a c)

@@ -10,4 +10,4 @@ invariant-chunks g l = record {
 }
 
 abbrev pub decreases-chunks : goal.decreases-chunks
-decreases-chunks g l = l.chunks.budget
+decreases-chunks g l = l.chunks.chunks_left

@@ -80,7 +80,7 @@ chunks-preserved g c =
     let next = c.in_ok-next.ensures in
     let over = c.in-None.ensures.taken in
     let none = over.left in
-    let budget = rw c.in-Some-2.is at next.leaves.budget in
+    let chunks_left = rw c.in-Some-2.is at next.leaves.chunks_left in
     let geometry = ap (λ x. x.walk.geometry) same.chunks ∙ i.geometry in
     record {
       entries = λ b t.
@@ -98,18 +98,18 @@ chunks-preserved g c =
       reads = λ held b t.
           let now = taken g (goal.at.chunks-preserved g c).After-take held b t in
           let took = continues_by_chunks b s.right_so_far _ s.chunks c.next.new.self _ _ _ _ _ _ _
-          (λ e. (and_parts s.right_so_far _ e).0) (omega (arith, budget)) (λ e. (next.leaves.over e).1)
+          (λ e. (and_parts s.right_so_far _ e).0) (omega (arith, chunks_left)) (λ e. (next.leaves.over e).1)
           (λ h. next.reads h b (ap (λ d. d.contents) i.device ∙ t)) now.1 in
           (omega (arith, took.paid, now.0), took.held);
       any = omega (
         arith,
         next.leaves.any,
-        budget,
-        ap (λ x. x.budget) same.chunks,
+        chunks_left,
+        ap (λ x. x.chunks_left) same.chunks,
         ap (λ x. most_steps_left x.walk) same.chunks,
         i.any,
       );
-      left = omega (arith, budget, ap (λ x. x.budget) same.chunks, i.left);
+      left = omega (arith, chunks_left, ap (λ x. x.chunks_left) same.chunks, i.left);
       runs = omega (arith, next.leaves.runs.rises, ap (λ x. x.runs) same.chunks, i.runs);
       each = λ b t. counts_more (i.each b t)
           ((rw same.chunks at next.leaves.runs.each) b (ap (λ d. d.contents) i.device ∙ t));
@@ -177,9 +177,9 @@ returns-in-None-2-clause-reads g c = λ held b t.
     let s = c.take.new.self in
     let next = c.in_ok-next.ensures in
     let now = taken g (goal.at.returns-in-None-2-clause-reads g c).After-take held b t in
-    let budget = rw c.in-None-2.is at next.leaves.budget in
+    let chunks_left = rw c.in-None-2.is at next.leaves.chunks_left in
     let took = continues_by_chunks b s.right_so_far _ s.chunks c.next.new.self _ _ _ _ _ _ _
-    (λ e. (and_parts s.right_so_far _ e).0) (omega (arith, budget)) (λ e. (next.leaves.over e).1)
+    (λ e. (and_parts s.right_so_far _ e).0) (omega (arith, chunks_left)) (λ e. (next.leaves.over e).1)
     (λ h. next.reads h b (ap (λ d. d.contents) c.chunks.invariant.device ∙ t)) now.1 in
     record { most = omega (arith, took.most, now.0); paid = omega (arith, took.paid, now.0); held = took.held }
 
@@ -190,7 +190,7 @@ returns-in_err-next-clause-reads g c =
     let next = c.in_err-next.ensures in
     let now = taken g (goal.at.returns-in_err-next-clause-reads g c).After-take held b t in
     let took = continues_by_chunks b s.right_so_far s.right_so_far s.chunks c.next.new.self _ _ _ _ _ _ _
-    (λ h. h) (omega (arith, next.leaves.budget)) (λ e. (next.leaves.over e).1)
+    (λ h. h) (omega (arith, next.leaves.chunks_left)) (λ e. (next.leaves.over e).1)
     (λ h. next.reads h b (ap (λ d. d.contents) c.chunks.invariant.device ∙ t)) now.1 in
     record { most = omega (arith, took.most, now.0); paid = tt; held = tt })
 
@@ -200,7 +200,7 @@ returns-in-None-2-clause-leaves g c =
     let same = c.take.ensures.same.chunks in
     let next = c.in_ok-next.ensures.leaves in
     let geometry = ap (λ x. x.walk.geometry) same ∙ i.geometry in
-    let budget = rw c.in-None-2.is at next.budget in
+    let chunks_left = rw c.in-None-2.is at next.chunks_left in
     record {
       geometry = next.geometry ∙ geometry;
       ready = rw geometry at next.ready;
@@ -216,8 +216,8 @@ returns-in-None-2-clause-leaves g c =
       any = omega (
         arith,
         next.any,
-        budget,
-        ap (λ x. x.budget) same,
+        chunks_left,
+        ap (λ x. x.chunks_left) same,
         ap (λ x. most_steps_left x.walk) same,
         i.any,
       );

@@ -25,4 +25,4 @@ invariant-chunks g l = record {
 }
 
 abbrev pub decreases-chunks : goal.decreases-chunks
-decreases-chunks g l = l.self.chunks.budget
+decreases-chunks g l = l.self.chunks.chunks_left

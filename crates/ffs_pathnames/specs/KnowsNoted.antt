@@ -11,7 +11,7 @@ use Rattle.ffs_pathnames.specs.declared.entry_texts.EntryTexts.{EntryTexts}
 
 -- the image gives these bytes, the workspace holds what the block check and the survey leave, and the
 -- place of each directory that is reached; and x is a directory
-pub record DirectoryContext (v : Layout) (contents : Option (List ℕ)) (w : Workspace) (x : ℕ) (b : List ℕ) :
+pub record KnowsNoted (v : Layout) (contents : Option (List ℕ)) (w : Workspace) (x : ℕ) (b : List ℕ) :
     Type 0 where
   pub gives_bytes : IsContents contents b
   pub claims : HoldsBlockCheck v b w
@@ -26,7 +26,7 @@ BeginsPathOf g dir t = IsTrue t.path_settled → IsPathOf g dir t.paths.director
 -- a directory's context, and the path that is settled, if any, is that of the directory `dir`
 pub record KnowsPath (v : Layout) (contents : Option (List ℕ)) (w : Workspace) (dir : ℕ) (t : EntryTexts)
     (b : List ℕ) : Type 0 where
-  pub knows : DirectoryContext v contents w dir b
+  pub knows : KnowsNoted v contents w dir b
   pub path : BeginsPathOf (graph_of (volume_of v b)) dir t
 
 -- after a call the path that is settled, if any, still is that of `dir`
@@ -37,4 +37,4 @@ KeepsPath v d w dir old new =
 -- the bytes are those of a directory's context, and the inode that was read is that of the directory
 abbrev pub KnowsDirectory : Layout → Device → Workspace → Directory → List ℕ → Type 0
 KnowsDirectory v d w directory b =
-    DirectoryContext v d.contents w directory.number b × (directory.inode ≡ inode_of v b directory.number)
+    KnowsNoted v d.contents w directory.number b × (directory.inode ≡ inode_of v b directory.number)
