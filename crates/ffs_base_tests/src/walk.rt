@@ -2,7 +2,7 @@
 
 ghost use Rattle.std.specs.Prelude.{◌≡◌, ◌*◌, ◌≤◌, ℕ, List, Option, IfOk};
 ghost use Rattle.ffs_walk.specs.Windows.{BlocksHold, CanWalk, HasRoom};
-ghost use Rattle.ffs_layout.specs.HasVolume.{HasVolume};
+ghost use Rattle.ffs_volume.specs.Disk.Areas.{FitsIn};
 
 use crate::compare::same;
 use ffs_image::{FuseImage, Image, ImageFault};
@@ -82,7 +82,7 @@ fn steps<I: Image>(
     image: &mut I,
     alloc: Global,
 ) -> Result<(Vec<Step>, u64), Stop>
-    requires { HasVolume geometry.now.layout (I.device image.old) }
+    requires { FitsIn geometry.now.layout (I.device image.old).size }
 {
     let mut blocks = empty_blocks(geometry, alloc)?;
     let mut walk = Walk::start(geometry, inode);

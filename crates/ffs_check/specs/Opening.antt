@@ -8,7 +8,7 @@ use Rattle.ffs_volume.specs.{Messages.Texts.texts_of, Report.Opening.{fault_line
 use Rattle.ffs_report.specs.{Progress.Progress, Sink.{BrokeOff, Took}}
 use Rattle.ffs_layout.specs.{declared.superblock.Super.Super, Super.{IsUnreadable, ReadsSuper, superblock_in}}
 use Rattle.ffs_check.specs.{Ends.BrokeOffAfter, Moment.Moment}
-use Rattle.ffs_layout.specs.HasVolume.{HasVolume}
+use Rattle.ffs_volume.specs.Disk.Areas.{FitsIn}
 
 -- the superblock isn't accepted, and its opening went out, with the fault
 pub record OpeningRefused (name : List ℕ) (asked_sector : Option ℕ) (old new : Moment)
@@ -55,7 +55,7 @@ pub record OpeningOf (name : List ℕ) (asked_sector : Option ℕ) (old new : Mo
 -- the image ends before it does. Two reads are made at most: of the superblock, and of its last copy
 pub record AnswersOpening (asked_sector : Option ℕ) (old new : Moment) (result : Result Super End) : Type 0 where
   pub inside_or_unreadable : MatchResult result
-      (λ super. HasVolume super.geometry.layout old.image)
+      (λ super. FitsIn super.geometry.layout old.image.size)
       (λ end. (sector : ℕ) → end ≡ Refused (CannotRead sector)
       → IsUnreadable old.image new.image asked_sector sector)
   pub reads : new.reads ≤ old.reads + opening_reads

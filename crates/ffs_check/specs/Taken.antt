@@ -4,7 +4,7 @@ use Rattle.ffs_image.specs.Device.{Device, ForContents}
 use Rattle.ffs_memory.specs.{Account.{Account, Granted, GaveUp, RefusedOneMore}}
 use Rattle.ffs_volume.specs.{declared.End.{End, TheVariants.NoMemory}, Report.Memory.held_limit, Disk.Outcome.outcome}
 use Rattle.ffs_volume.specs.{Disk.Superblock.Superblock, Laws.Geometry.IsAcceptedLayout, Report.Memory.held_of}
-use Rattle.ffs_layout.specs.HasVolume.{HasVolume}
+use Rattle.ffs_volume.specs.Disk.Areas.{FitsIn}
 
 -- these bytes were granted, or a request was refused before all of them were
 abbrev pub AsksMemory : (old new : Account) → ℕ → Type 0
@@ -21,7 +21,7 @@ pub record TakesWorkspace (image : Device) (asked_sector : Option ℕ) (old new 
   pub found : Superblock
   pub accepted : ForContents image.contents (λ bytes. outcome bytes asked_sector ≡ Ok found)
   pub sound : IsAcceptedLayout found.layout
-  pub inside : HasVolume found.layout image
+  pub inside : FitsIn found.layout image.size
   pub asked : AsksMemory old new (held_of found.layout)
   pub within : held_of found.layout ≤ held_limit found.layout
 

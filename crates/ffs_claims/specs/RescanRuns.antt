@@ -12,7 +12,7 @@ use Rattle.ffs_volume.specs.declared.{constants.TheConstants.ROOTINO, Inode.Inod
 use Rattle.ffs_report.specs.{PhaseOutcome.PhaseReports, declared.fault.RunFault.RunFault}
 use Rattle.ffs_image.specs.Known.{ForBytes, IsContents}
 use Rattle.ffs_maps.specs.Bits.{bits_of}
-use Rattle.ffs_walk.specs.{KeptRuns.{indirect_in, kept_runs}, declared.kept_runs.KeptRun.KeptRun}
+use Rattle.ffs_walk.specs.{KeptRuns.{indirect_in_run, kept_runs}, declared.kept_runs.KeptRun.KeptRun}
 use Rattle.ffs_workspace.specs.{Tables.{HoldsInode, HoldsPiece}, declared.workspace.Workspace.Workspace}
 use Rattle.ffs_claims.specs.{Lines.of_lines, Moments.PhaseMoment}
 use Rattle.ffs_claims.specs.Reporting.{OffersReported, ReportedInPart, RewalkLeaves}
@@ -27,7 +27,7 @@ offers_of_runs number runs = flat_map (run_offers number) runs
 -- how many of some Runs are indirect blocks
 abbrev pub indirect_among : List KeptRun → ℕ
 indirect_among [] = 0
-indirect_among (run ∷ runs) = indirect_in run + indirect_among runs
+indirect_among (run ∷ runs) = indirect_in_run run + indirect_among runs
 
 -- the offers that each inode keeps, of inodes one after the other
 unfoldable pub offers_by_owner : Layout → Claims → List Owner → List (List Offer)

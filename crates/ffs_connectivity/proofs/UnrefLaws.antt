@@ -10,7 +10,7 @@ use Rattle.ffs_volume.{specs.Directories.Volumes.{volume_of, volume_with}, proof
 use Rattle.ffs_survey.specs.Survey.{bool_at, number_at}
 use Rattle.ffs_workspace.specs.{declared.workspace.Workspace.Workspace, Holds.{HoldsBlockCheck, HoldsSurvey}, Lengths.IsFor}
 use Rattle.ffs_workspace.proofs.KindLaws.{dir_is, suspect_is}
-use Rattle.ffs_connectivity.specs.{Cycles.parent_in, Leaders.HasLeaders, Phase3.{is_dead_by, is_unref_by}}
+use Rattle.ffs_connectivity.specs.{Cycles.parent_in, Leaders.HasLeaders, Phase3.{is_dead_inode, is_unref_by}}
 
 -- what a parent is
 record IsParent (v : Graph) (s : ℕ) : Type 0 where
@@ -46,7 +46,7 @@ module _ (v : Layout) (b : List ℕ) (w : Workspace) (h : HoldsBlockCheck v b w)
   pub dir_held : (x : ℕ) → is_dir_at w.kinds.items x ≡ is_dir (volume_of v b) x
   dir_held x = grind (arith, dir_is)
 
-  dead_held : (x : ℕ) → x < inodes_of v → is_dead_by w x ≡ is_dead (volume_of v b) x
+  dead_held : (x : ℕ) → x < inodes_of v → is_dead_inode w x ≡ is_dead (volume_of v b) x
   dead_held x l = grind (arith, suspect_is, count_is)
 
   sane : 2 < inodes_of v → IsSane (graph_of (volume_of v b))
@@ -57,7 +57,7 @@ module _ (v : Layout) (b : List ℕ) (w : Workspace) (h : HoldsBlockCheck v b w)
 
   -- without a parent, with a dead one, or the least on a cycle
   cut_off : (d : ℕ) → 2 < inodes_of v → IsFor v w → HasLeaders w → let p = number_at w.parents.items d in
-      ((p == 0) || (nat_le (length w.kinds.items) p || (is_dead_by w p || bool_at w.flags.items d)))
+      ((p == 0) || (nat_le (length w.kinds.items) p || (is_dead_inode w p || bool_at w.flags.items d)))
       ≡ (none_or_dead (graph_of (volume_of v b)) (is_suspect (volume_of v b)) (parent (graph_of (volume_of v b)) d)
       || is_leader_within (parent (graph_of (volume_of v b))) (graph_of (volume_of v b)).count d)
   cut_off d l for leads =

@@ -15,12 +15,12 @@ pub record CanReportUnref (v : Layout) (d : Device) (w : Workspace) (x : ℕ) : 
   pub leaders : HasLeaders w
 
 -- x is dead, by the lists
-abbrev pub is_dead_by : Workspace → ℕ → Bool
-is_dead_by w x = dead_at w.kinds.items w.marked.items w.named.items x
+abbrev pub is_dead_inode : Workspace → ℕ → Bool
+is_dead_inode w x = dead_at w.kinds.items w.marked.items w.named.items x
 
 -- d is reported, by the lists: a directory that is neither reached nor dead, and without a parent, with a dead
 -- one, or the least number on a cycle of parents
 unfoldable pub is_unref_by : Workspace → ℕ → Bool
 is_unref_by w d = let parent = number_at w.parents.items d in
-    is_dir_at w.kinds.items d && (not (d == ROOTINO) && (not (bool_at w.reached.items d) && (not (is_dead_by w d)
-    && ((parent == 0) || (nat_le (length w.kinds.items) parent || (is_dead_by w parent || bool_at w.flags.items d))))))
+    is_dir_at w.kinds.items d && (not (d == ROOTINO) && (not (bool_at w.reached.items d) && (not (is_dead_inode w d)
+    && ((parent == 0) || (nat_le (length w.kinds.items) parent || (is_dead_inode w parent || bool_at w.flags.items d))))))

@@ -10,9 +10,9 @@ use Rattle.ffs_volume.specs.{declared.{Layout.Layout, Step.{Step, TheVariants.{R
 use Rattle.ffs_volume.specs.Find.Owner.{indirect_in, keeper_lines_of_step, keeper_lines_of_steps}
 use Rattle.ffs_walk.specs.Keepings.{run_taken}
 use Rattle.ffs_walk.specs.{KeptRuns.{indirect_by, kept_runs, step_run}, declared.kept_runs.KeptRun.KeptRun}
-use Rattle.ffs_walk.specs.KeptRuns.{indirect_in as indirect_in_run}
+use Rattle.ffs_walk.specs.KeptRuns.{indirect_in_run}
 use Rattle.ffs_claims.{specs.RescanRuns.offers_of_runs, proofs.RescanCounts.step_again}
-use Rattle.ffs_finding.specs.{Keepers.{is_in_run, lines_of_runs, run_lines, run_text}, declared.owner.Sought.Sought}
+use Rattle.ffs_finding.specs.{Keepers.{is_in_run, lines_of_runs, lines_of_run, run_text}, declared.owner.Sought.Sought}
 
 -- ---- the lines
 -- an offer of some consecutive fragments is of f
@@ -52,7 +52,7 @@ lines_replay v f x earlier seen s (Run start len block ∷ steps) few same =
           let seen_one : step_run v cut (replay_of s) step ≡ run ∷ [] = rw (going_on ∙ going) refl in
           let keeps : list_any (λ o. o.fragment == f) (kept_in_step v x s step) ≡ is_in_run f start run.taken =
           ap (list_any (λ o. o.fragment == f)) (one ∙ ap (offers_of_runs x) seen_one) ∙ any_in_run f x run in
-          let line : keeper_lines_of_step v f x earlier s step ≡ run_lines f x seen run = rw (keeps, same going) refl in
+          let line : keeper_lines_of_step v f x earlier s step ≡ lines_of_run f x seen run = rw (keeps, same going) refl in
           rw (seen_one, after, line, more) refl
       | inr shut ↦
           let more = lines_replay v f x (earlier + indirect_in step) seen (after_step v s step) steps
@@ -74,12 +74,12 @@ inode_replay v f x s steps = lines_replay v f x 0 0 (at_next_inode s) steps (ome
 -- ---- how a walk continues
 -- the text of a Run
 pub text_is : (s : Sought) (earlier : ℕ) (run : KeptRun) →
-    run_text s earlier run ≡ concat (run_lines s.fragment s.number earlier run)
+    run_text s earlier run ≡ concat (lines_of_run s.fragment s.number earlier run)
 text_is s earlier run = grind (arith, append-nil)
 
 pub lines_next : (f x earlier earlier' : ℕ) (run : KeptRun) (R R' : List KeptRun) → R ≡ run ∷ R' →
     earlier' ≡ earlier + indirect_in_run run →
-    lines_of_runs f x earlier R ≡ run_lines f x earlier run ++ lines_of_runs f x earlier' R'
+    lines_of_runs f x earlier R ≡ lines_of_run f x earlier run ++ lines_of_runs f x earlier' R'
 unfolding lines_of_runs
 lines_next f x earlier earlier' run R R' e more = rw (e, more) refl
 

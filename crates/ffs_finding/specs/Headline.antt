@@ -20,7 +20,7 @@ use Rattle.ffs_finding.specs.declared.request.Command.{Command, TheVariants.{Cop
 use Rattle.ffs_finding.specs.declared.find.FindFault.{FindFault, TheVariants.{Refused, Failed, NoMemory}}
 use Rattle.ffs_finding.specs.{Outcome.{Finds, PrintedTo, any_line}, Fields.WithSuper}
 use Rattle.ffs_finding.specs.{Copies.{ReadsCopies, window_bytes}}
-use Rattle.ffs_layout.specs.HasVolume.{HasVolume}
+use Rattle.ffs_volume.specs.Disk.Areas.{FitsIn}
 
 -- what is printed of a target in an image with this accepted superblock
 abbrev pub target_lines : Target → (sector : Option ℕ) → (image : List ℕ) → Superblock → List (List ℕ)
@@ -144,7 +144,7 @@ pub record ReadsVolume (target : Target) (sector : Option ℕ) (d : Device) (bef
   pub found : Superblock
   pub accepted : ForContents d.contents (λ b. outcome b sector ≡ Ok found)
   pub sound : IsAcceptedLayout found.layout
-  pub inside : HasVolume found.layout d
+  pub inside : FitsIn found.layout d.size
   pub reads : after ≤ before + opening_reads + target_reads target found.layout
 
 -- how often a command reads an image: in a volume the superblock, and what a target takes after it

@@ -9,13 +9,13 @@ use Rattle.ffs_volume.specs.Encodings.Notes.{cut_in}
 use Rattle.ffs_image.specs.Device.{Device}
 use Rattle.ffs_report.specs.declared.fault.RunFault.{RunFault}
 use Rattle.ffs_image.specs.Known.{ForBytes, IsContents}
-use Rattle.ffs_walk.specs.{KeptRuns.{indirect_in, kept_runs}, Windows.WindowHolds, declared.kept_runs.KeptRun.KeptRun}
+use Rattle.ffs_walk.specs.{KeptRuns.{indirect_in_run, kept_runs}, Windows.WindowHolds, declared.kept_runs.KeptRun.KeptRun}
 use Rattle.ffs_walk.specs.declared.window.Window.{Window}
 use Rattle.ffs_workspace.specs.{Ready.CanRead, declared.workspace.Workspace.Workspace}
 use Rattle.ffs_finding.specs.Claims.{WithBlocks}
 use Rattle.ffs_check.specs.Moment.{Moment}
 use Rattle.ffs_finding.specs.{Outcome.Finds, declared.owner.Sought.Sought}
-use Rattle.ffs_layout.specs.HasVolume.{HasVolume}
+use Rattle.ffs_volume.specs.Disk.Areas.{FitsIn}
 
 -- ---- the map of a group
 -- what the map of its group says of the fragment f can be printed: the volume has f, and its group block is there
@@ -26,7 +26,7 @@ pub record CanPrintMap (v : Layout) (block : List ℕ) (f : ℕ) : Type 0 where
 -- the group block of the fragment f can be read into a window
 pub record CanReadMap (v : Layout) (d : Device) (window : Window) (f : ℕ) : Type 0 where
   pub below : f < v.size
-  pub volume : HasVolume v d
+  pub volume : FitsIn v d.size
   pub room : vec_len window.buffer ≡ v.bsize
   pub holds : WindowHolds d.contents window
 
@@ -46,14 +46,14 @@ run_text s earlier run =
     if is_in_run s.fragment run.start run.taken then keeper_text s.number earlier run.block else []
 
 -- the line of a Run, and the lines of Runs
-abbrev pub run_lines : (f x earlier : ℕ) → KeptRun → List (List ℕ)
-run_lines f x earlier run =
+abbrev pub lines_of_run : (f x earlier : ℕ) → KeptRun → List (List ℕ)
+lines_of_run f x earlier run =
     if is_in_run f run.start run.taken then keeper_text x earlier run.block ∷ [] else []
 
 unfoldable pub lines_of_runs : (f x earlier : ℕ) → List KeptRun → List (List ℕ)
 lines_of_runs f x earlier [] = []
 lines_of_runs f x earlier (run ∷ runs) =
-    run_lines f x earlier run ++ lines_of_runs f x (earlier + indirect_in run) runs
+    lines_of_run f x earlier run ++ lines_of_runs f x (earlier + indirect_in_run run) runs
 
 -- the lines of a fragment in an inode with this cut, whose blocks have these steps
 abbrev pub sought_lines : Layout → Sought → List Step → List (List ℕ)

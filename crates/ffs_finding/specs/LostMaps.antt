@@ -12,7 +12,7 @@ use Rattle.ffs_walk.specs.{Windows.WindowHolds, declared.window.Window.Window}
 use Rattle.ffs_check.specs.Moment.{Moment}
 use Rattle.ffs_finding.specs.{Outcome.FindsAny, declared.lost.{ComparedMap.ComparedMap, Wrong.Wrong}}
 use Rattle.ffs_finding.specs.declared.lost.Wrong.TheVariants.{Lost, MarkedFree}
-use Rattle.ffs_layout.specs.HasVolume.{HasVolume}
+use Rattle.ffs_volume.specs.Disk.Areas.{FitsIn}
 
 -- the word before the fragments about which a map is wrong in this way
 abbrev pub word_of : Wrong → List ℕ
@@ -82,7 +82,7 @@ pub record IsBlockWindow (v : Layout) (d : Device) (w : Window) : Type 0 where
 
 -- the groups of a volume can be read into a window, and compared with a map of it
 pub record CanReadGroups (v : Layout) (d : Device) (mapped : ℕ) (w : Window) : Type 0 where
-  pub volume : HasVolume v d
+  pub volume : FitsIn v d.size
   pub size : mapped ≡ v.size
   pub window : IsBlockWindow v d w
 

@@ -2,7 +2,7 @@
 ghost use Rattle.std.specs.Prelude.{◌≡◌, ◌+◌, ◌*◌, ◌≤◌, Ok, length};
 ghost use Rattle.ffs_volume.specs.Report.Reads.{scan_reads};
 ghost use Rattle.ffs_finding.specs.Claims.{TakesClaims, discarding};
-ghost use Rattle.ffs_layout.specs.HasVolume.{HasVolume};
+ghost use Rattle.ffs_volume.specs.Disk.Areas.{FitsIn};
 
 use crate::find::FindFault;
 use ffs_claims::phase1;
@@ -41,7 +41,7 @@ pub(crate) fn claimed_workspace<M: Memory, I: Image>(
     geometry: &Geometry,
     image: &mut I,
 ) -> Result<Workspace, FindFault>
-    requires { HasVolume geometry.now.layout (I.device image.old) }
+    requires { FitsIn geometry.now.layout (I.device image.old).size }
     ensures takes { TakesClaims geometry.now.layout (I.device image.old) (I.device image.new)
         (M.account memory.old) (M.account memory.new) result }
     ensures reads { I.reads image.new ≤ I.reads image.old + scan_reads geometry.now.layout }

@@ -8,7 +8,7 @@ ghost use Rattle.ffs_finding.specs.Headline.{AnswersCommand, EndsBy, FindsComman
 ghost use Rattle.ffs_finding.specs.declared.find.FindFault.TheVariants.{Failed, NoMemory};
 ghost use Rattle.ffs_finding.specs.declared.request.Target.TheVariants.{Lost, Owner};
 ghost use Rattle.ffs_finding.specs.declared.request.Command.TheVariants.{Copies, InVolume};
-ghost use Rattle.ffs_layout.specs.HasVolume.{HasVolume};
+ghost use Rattle.ffs_volume.specs.Disk.Areas.{FitsIn};
 
 use crate::claims::claimed_workspace;
 use crate::copies::{WINDOW_BYTES, find_copies};
@@ -141,7 +141,7 @@ fn find_in_accepted<M: Memory, I: Image, W: Output>(
     superblock: &Super,
     out: &mut W,
 ) -> Result<bool, FindFault>
-    requires volume { HasVolume superblock.now.geometry.layout (I.device image.old) }
+    requires volume { FitsIn superblock.now.geometry.layout (I.device image.old).size }
     ensures answer { FindsTarget target sector (superblock_in superblock.now)
         (moment I.Image W.Output image.old out.old) (moment I.Image W.Output image.new out.new)
         result }
@@ -172,7 +172,7 @@ fn claim_and_find_lost<M: Memory, I: Image, W: Output>(
     superblock: &Super,
     out: &mut W,
 ) -> Result<bool, FindFault>
-    requires volume { HasVolume superblock.now.geometry.layout (I.device image.old) }
+    requires volume { FitsIn superblock.now.geometry.layout (I.device image.old).size }
     // Whichever sector the superblock came from: only `fields` prints it.
     ensures answer { (sector : Option ℕ) → FindsTarget Lost sector (superblock_in superblock.now)
         (moment I.Image W.Output image.old out.old) (moment I.Image W.Output image.new out.new)
@@ -196,7 +196,7 @@ fn claim_and_find_owner<M: Memory, I: Image, W: Output>(
     fragment: u32,
     out: &mut W,
 ) -> Result<bool, FindFault>
-    requires volume { HasVolume superblock.now.geometry.layout (I.device image.old) }
+    requires volume { FitsIn superblock.now.geometry.layout (I.device image.old).size }
     // Whichever sector the superblock came from: only `fields` prints it.
     ensures answer { (sector : Option ℕ) → FindsTarget (Owner fragment) sector
         (superblock_in superblock.now) (moment I.Image W.Output image.old out.old)

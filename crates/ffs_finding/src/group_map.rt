@@ -4,7 +4,7 @@ ghost use Rattle.ffs_volume.specs.{Disk.Areas.group_place, Groups.Records.bit_at
 ghost use Rattle.ffs_image.specs.Reads.{ReadsAtMostOnce};
 ghost use Rattle.ffs_walk.specs.Windows.{FillsWindow, image_with};
 ghost use Rattle.ffs_finding.specs.{GroupMaps.IsMapPlace, LostMaps.IsBlockWindow};
-ghost use Rattle.ffs_layout.specs.HasVolume.{HasVolume};
+ghost use Rattle.ffs_volume.specs.Disk.Areas.{FitsIn};
 
 use ffs_image::{Image, ImageFault};
 use ffs_layout::{Geometry, Group};
@@ -23,7 +23,7 @@ pub(crate) fn fill_group<I: Image>(
     group: u32,
 ) -> Result<(), ImageFault>
     requires group { group < geometry.now.layout.ncg }
-    requires volume { HasVolume geometry.now.layout (I.device image.old) }
+    requires volume { FitsIn geometry.now.layout (I.device image.old).size }
     requires window { IsBlockWindow geometry.now.layout (I.device image.old) window.old }
     ensures fills { FillsWindow (group_place geometry.now.layout group) geometry.now.layout.cgsize
         (image_with I.Image image.old window.old) (image_with I.Image image.new window.new)

@@ -9,7 +9,7 @@ ghost use Rattle.ffs_report.specs.{Fails.FailsIn, Sink.Prints};
 ghost use Rattle.ffs_image.specs.Known.{IsContents};
 ghost use Rattle.ffs_check.specs.Moment.{moment};
 ghost use Rattle.ffs_finding.specs.Outcome.{Finds};
-ghost use Rattle.ffs_layout.specs.HasVolume.{HasVolume};
+ghost use Rattle.ffs_volume.specs.Disk.Areas.{FitsIn};
 
 use ffs_image::Image;
 use ffs_layout::{Geometry, decode_inode};
@@ -177,7 +177,7 @@ pub fn find_inode<I: Image, W: Output>(
     number: u32,
     out: &mut W,
 ) -> Result<(), RunFault>
-    requires volume { HasVolume geometry.now.layout (I.device image.old) }
+    requires volume { FitsIn geometry.now.layout (I.device image.old).size }
     ensures prints { Finds (IsContents (I.device image.old).contents)
         (λ bytes. inode_listing geometry.now.layout bytes number)
         (moment I.Image W.Output image.old out.old) (moment I.Image W.Output image.new out.new)

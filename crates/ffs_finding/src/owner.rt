@@ -7,7 +7,7 @@ ghost use Rattle.ffs_volume.specs.Find.Owner.{keeper_text, keeper_lines, map_tex
 ghost use Rattle.ffs_volume.specs.{Find.Owner.{part_text, reserved_text, table_text}, Encodings.Notes.cut_in};
 ghost use Rattle.ffs_report.specs.Sink.{Prints};
 ghost use Rattle.ffs_image.specs.Known.{IsContents};
-ghost use Rattle.ffs_walk.specs.{KeptRuns.indirect_in, Windows.{CanWalk, KeepsBlocks}};
+ghost use Rattle.ffs_walk.specs.{KeptRuns.indirect_in_run, Windows.{CanWalk, KeepsBlocks}};
 ghost use Rattle.ffs_workspace.specs.Ready.{CanRead, IsReady, KeepsWindows};
 ghost use Rattle.ffs_check.specs.Moment.{moment};
 ghost use Rattle.ffs_finding.specs.{Claims.WithBlocks, Outcome.Finds, Keepers.{CanFindKeeper, CanPrintMap, CanReadMap}};
@@ -187,7 +187,7 @@ fn print_run<W: Output>(
 
 /// 1 for the Run of an indirect block, else 0.
 fn indirect_in(run: KeptRun) -> u64
-    ensures { result ≡ indirect_in run }
+    ensures { result ≡ indirect_in_run run }
 {
     match run.block {
         None => 1,

@@ -7,7 +7,7 @@ ghost use Rattle.ffs_volume.specs.{Disk.{Outcome.{copy_place, super_sector}, Sup
 ghost use Rattle.ffs_layout.specs.{Accepted.IsAccepted, Copies.{ComparesCopy, ReadsSuperblockBytes, ReadsSuperblocks}, Super.ReadsSuper};
 ghost use Rattle.ffs_image.specs.Reads.{ReadsAtMostOnce};
 ghost use Rattle.ffs_layout.specs.Super.{IsUnreadable, found_of, may_read_copy, superblock_in};
-ghost use Rattle.ffs_layout.specs.HasVolume.{HasVolume};
+ghost use Rattle.ffs_volume.specs.Disk.Areas.{FitsIn};
 
 use crate::geometry::Geometry;
 use crate::layout::decode;
@@ -192,7 +192,7 @@ pub fn read_super<I: Image>(image: &mut I, sector: Option<u32>) -> Result<Super,
     // An accepted volume lies within the image. What can't be read is a failed read, or lies past
     // the image's end.
     ensures inside_or_unreadable { MatchResult result
-        (λ s. HasVolume s.geometry.layout (I.device image.old))
+        (λ s. FitsIn s.geometry.layout (I.device image.old).size)
         (λ fault. (at : ℕ) → fault ≡ SuperFault.CannotRead at
         → IsUnreadable (I.device image.old) (I.device image.new) sector at) }
 

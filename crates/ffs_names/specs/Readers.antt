@@ -7,7 +7,7 @@ use Rattle.ffs_volume.specs.{Directories.Volumes.volume_of, Encodings.{Kinds.kin
 use Rattle.ffs_volume.specs.{Blocks.Inodes.inodes_of, Costs.Calm.is_directory_of_right_shape}
 use Rattle.ffs_workspace.specs.{Tables.IsTableOf, declared.workspace.Windows.Windows}
 use Rattle.ffs_walk.specs.Windows.{BlocksHold, WindowHolds}
-use Rattle.ffs_layout.specs.HasVolume.{HasVolume}
+use Rattle.ffs_volume.specs.Disk.Areas.{FitsIn}
 
 -- what a reader of directories is over: a layout, the image's bytes where it gives them, the kinds
 -- of inodes and what is noted of them, and what it was lent
@@ -35,7 +35,7 @@ dir_right_shape t b = is_directory_of_right_shape (volume_of t.layout b)
 
 -- the windows have room, and hold what the image gives; its lists have an entry for each inode
 pub record IsReaderReady (v : Layout) (d : Device) (windows : Windows) (kinds notes : List ℕ) : Type 0 where
-  pub volume : HasVolume v d
+  pub volume : FitsIn v d.size
   pub table : IsTableOf v windows.table
   pub blocks : vec_len windows.blocks.buffer ≡ 3 * v.bsize
   pub current : vec_len windows.current.buffer ≡ v.bsize

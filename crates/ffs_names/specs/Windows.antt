@@ -4,12 +4,12 @@ use Rattle.ffs_image.specs.Device.{Device}
 use Rattle.ffs_volume.specs.declared.Layout.{Layout}
 use Rattle.ffs_walk.specs.{declared.{blocks.Blocks.Blocks, window.Window.Window}, Windows.{BlocksHold, WindowHolds}}
 use Rattle.ffs_names.specs.declared.run_cursor.RunCursor.{RunCursor}
-use Rattle.ffs_layout.specs.HasVolume.{HasVolume}
+use Rattle.ffs_volume.specs.Disk.Areas.{FitsIn}
 
 -- the image has all of the volume, and the buffer of indirect blocks has a block of each level and
 -- holds what the image gives
 pub record CanWalkDir (v : Layout) (d : Device) (blocks : Blocks) : Type 0 where
-  pub volume : HasVolume v d
+  pub volume : FitsIn v d.size
   pub room : vec_len blocks.buffer ≡ 3 * v.bsize
   pub holds : BlocksHold v d.contents blocks
 

@@ -33,7 +33,7 @@ pub record ReportsHeader {T : Type 0} (v : Layout) (h : HeaderFacts) (old new : 
 -- the lines of a task are said, by what is known of the bytes, and what it asks of the answer holds. The
 -- directory's own blocks are read `own_reads` times at most, which are taken of the reads that are left, and the
 -- rest is read for the lines; of any image for no more than the messages that were begun
-pub record ReportsDirectory {T : Type 0} (v : Layout) (task : (old new : LinesMoment Checking) → DirectoryTask T)
+pub record ReportsDirectory {T : Type 0} (v : Layout) (task : LinesMoment Checking → LinesMoment Checking → DirectoryTask T)
     (old new : LinesMoment Checking) (result : Result T RunFault) : Type 0 where
   pub text : PhaseReports (task old new).knows (λ b. map of_tree ((task old new).lines b)) old.report new.report result
   pub reads : ForBytes (task old new).knows (λ b. AreNoted v b old.at.workspace.queue.items

@@ -87,7 +87,8 @@ fn gather_paths_and_attr<I: Image>(
     verdict: &Verdict,
 ) -> Result<Attr, ImageFault>
     requires { CanIfWanted (asks_attr verdict.now) geometry.now.layout entry.now.number
-        (CanMakePaths geometry.now.layout (I.device image.old) workspace.old texts.old.kept_parent) }
+        (CanMakePaths geometry.now.layout (I.device image.old) workspace.old
+        texts.old.kept_parent) }
     ensures { GathersPathsAndAttr I.Image geometry.now.layout image.old image.new workspace.old
         workspace.new (entry_value entry.now) verdict.now texts.old texts.new result }
 {

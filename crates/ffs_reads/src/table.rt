@@ -1,7 +1,7 @@
 //! The reads of a check of an image, part by part.
 ghost use Rattle.std.specs.Prelude.{◌*◌, ◌≤◌};
 ghost use Rattle.ffs_workspace.specs.Ready.{IsReady};
-ghost use Rattle.ffs_layout.specs.HasVolume.{HasVolume};
+ghost use Rattle.ffs_volume.specs.Disk.Areas.{FitsIn};
 
 use crate::limits::{OPENING_READS, part_reads, reads_limit};
 use crate::messages::MessageCounter;
@@ -116,7 +116,8 @@ fn count_parts<I: Image>(
     superblock: &Super,
     rows: &mut Vec<Row>,
 ) -> Result<(), AllocError>
-    requires volume { HasVolume superblock.now.geometry.layout (⟦<CountedImage<I> as Image>⟧.device image.old) }
+    requires volume { FitsIn superblock.now.geometry.layout
+        (⟦<CountedImage<I> as Image>⟧.device image.old).size }
 {
     let mut workspace = Workspace::new(alloc, &superblock.geometry)?;
     for part in PARTS {

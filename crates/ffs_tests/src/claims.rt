@@ -2,7 +2,7 @@
 
 ghost use Rattle.std.specs.Prelude.{◌≡◌, ◌*◌, ◌≤◌, IfOk, length};
 ghost use Rattle.ffs_workspace.specs.Ready.{IsReady};
-ghost use Rattle.ffs_layout.specs.HasVolume.{HasVolume};
+ghost use Rattle.ffs_volume.specs.Disk.Areas.{FitsIn};
 
 use crate::compare::same;
 use ffs_claims::{phase1, phase1b};
@@ -140,7 +140,7 @@ fn checked<I: Image>(
     image: &mut I,
     alloc: Global,
 ) -> Result<(Vec<u8>, [u64; 2]), Fail>
-    requires { HasVolume geometry.now.layout (I.device image.old) }
+    requires { FitsIn geometry.now.layout (I.device image.old).size }
 {
     let mut workspace = Workspace::new(alloc, geometry)?;
     let (end, text) = printed(geometry, image, &mut workspace, alloc);

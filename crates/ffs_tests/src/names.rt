@@ -2,7 +2,7 @@
 //! blocks share a fragment, and directories of which the address of their only chunk is known.
 
 ghost use Rattle.std.specs.Prelude.{◌≡◌, ◌*◌, ◌≤◌};
-ghost use Rattle.ffs_layout.specs.HasVolume.{HasVolume};
+ghost use Rattle.ffs_volume.specs.Disk.Areas.{FitsIn};
 
 use crate::compare::same;
 use ffs::{Blocks, Chunks, FixedList, Window};
@@ -82,7 +82,7 @@ pub fn chunks_of<I: Image>(
     image: &mut I,
     alloc: Global,
 ) -> Result<Vec<(u64, u8, u8)>, Stop>
-    requires volume { HasVolume geometry.now.layout (I.device image.old) }
+    requires volume { FitsIn geometry.now.layout (I.device image.old).size }
     requires geometry { chunks.old.walk.geometry ≡ geometry.now }
 {
     let size = geometry.layout.bsize as usize;
@@ -173,7 +173,7 @@ fn entries_of<I: Image>(
     image: &mut I,
     alloc: Global,
 ) -> Result<Vec<(u32, u8)>, Stop>
-    requires volume { HasVolume geometry.now.layout (I.device image.old) }
+    requires volume { FitsIn geometry.now.layout (I.device image.old).size }
     requires geometry { entries.old.chunks.walk.geometry ≡ geometry.now }
 {
     let size = geometry.layout.bsize as usize;

@@ -2,7 +2,7 @@
 
 ghost use Rattle.std.specs.Prelude.{◌*◌, ◌≤◌};
 ghost use Rattle.ffs_workspace.specs.Ready.{IsReady};
-ghost use Rattle.ffs_layout.specs.HasVolume.{HasVolume};
+ghost use Rattle.ffs_volume.specs.Disk.Areas.{FitsIn};
 
 use crate::compare::same;
 use ffs_claims::phase1;
@@ -98,7 +98,7 @@ fn checked<I: Image>(
     image: &mut I,
     alloc: Global,
 ) -> Result<(Vec<u8>, PathText), Fail>
-    requires { HasVolume geometry.now.layout (I.device image.old) }
+    requires { FitsIn geometry.now.layout (I.device image.old).size }
 {
     let mut path = PathText::new();
     let mut workspace = Workspace::new(alloc, geometry)?;

@@ -23,12 +23,12 @@ kept_runs v cut r [] = []
 kept_runs v cut r (step ∷ steps) = step_run v cut r step ++ kept_runs v cut (replay_after_step v cut r step) steps
 
 -- those that are left, in an image of these bytes
-abbrev pub runs_left : List ℕ → KeptRuns → List KeptRun
-runs_left bytes k = kept_runs k.walk.geometry.layout k.keeping.cut (replay_in k.keeping) (steps_left bytes k.walk)
+abbrev pub kept_runs_left : List ℕ → KeptRuns → List KeptRun
+kept_runs_left bytes k = kept_runs k.walk.geometry.layout k.keeping.cut (replay_in k.keeping) (steps_left bytes k.walk)
 
 -- all Runs of an inode with this cut are left
 pub record AreRunsOf (g : Geometry) (inode : Inode) (cut : ℕ) (k : KeptRuns) : Type 0 where
-  pub runs : (bytes : List ℕ) → runs_left bytes k ≡ kept_runs g.layout cut fresh_replay (steps_of g.layout inode bytes)
+  pub runs : (bytes : List ℕ) → kept_runs_left bytes k ≡ kept_runs g.layout cut fresh_replay (steps_of g.layout inode bytes)
   pub geometry : k.walk.geometry ≡ g
   pub top : IsAtTop k.walk
 
@@ -37,17 +37,17 @@ abbrev pub indirect_by : Option ℕ → ℕ
 indirect_by None = 1
 indirect_by (Some block) = 0
 
-abbrev pub indirect_in : KeptRun → ℕ
-indirect_in run = indirect_by run.block
+abbrev pub indirect_in_run : KeptRun → ℕ
+indirect_in_run run = indirect_by run.block
 
 abbrev pub indirect_given : Option KeptRun → ℕ
 indirect_given None = 0
-indirect_given (Some run) = indirect_in run
+indirect_given (Some run) = indirect_in_run run
 
 -- the next Run in an image of these contents is given, and the others are left; None comes after the last
 pub record IsNextRun (contents : Option (List ℕ)) (old new : KeptRuns) (answer : Option KeptRun) : Type 0 where
-  pub runs : ForContents contents (λ bytes. MatchOption answer (runs_left bytes old ≡ [])
-      (λ run. runs_left bytes old ≡ run ∷ runs_left bytes new))
+  pub runs : ForContents contents (λ bytes. MatchOption answer (kept_runs_left bytes old ≡ [])
+      (λ run. kept_runs_left bytes old ≡ run ∷ kept_runs_left bytes new))
   pub falls : IfSome answer (λ _. most_steps_left new.walk < most_steps_left old.walk)
 
 -- giving a Run reads only a block that was still to be read
@@ -62,7 +62,7 @@ pub record RunReads (before after : ImageWith Blocks) (old new : Walk) (result :
 pub record GivesRun (before after : ImageWith Blocks) (old new : KeptRuns) (result : Result (Option KeptRun) ImageFault)
     : Type 0 where
   pub run : IfOk result (IsNextRun before.image.contents old new)
-  pub over : OnErr result ((bytes : List ℕ) → runs_left bytes new ≡ [])
+  pub over : OnErr result ((bytes : List ℕ) → kept_runs_left bytes new ≡ [])
   pub geometry : new.walk.geometry ≡ old.walk.geometry
   pub leaves : BlocksAfter old.walk.geometry.layout before after result
   pub counted : AreHeld before.cache old.walk → RunReads before after old.walk new.walk result

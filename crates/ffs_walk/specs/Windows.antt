@@ -8,7 +8,7 @@ use Rattle.ffs_volume.specs.declared.constants.TheConstants.{DEV_BSIZE}
 use Rattle.ffs_volume.specs.Blocks.Steps.{address_in, block_bytes}
 use Rattle.ffs_memory.specs.declared.fixed_list.FixedList.{FixedList}
 use Rattle.ffs_walk.specs.declared.{window.Window.Window, blocks.Blocks.Blocks}
-use Rattle.ffs_layout.specs.HasVolume.{HasVolume}
+use Rattle.ffs_volume.specs.Disk.Areas.{FitsIn}
 
 -- a moment of an image that is read through a cache, as a window or the blocks of a walk: the image, how
 -- often it was read by then, and the cache
@@ -62,7 +62,7 @@ pub record AreLevelBytes (v : Layout) (level : ℕ) (blocks : Blocks) (xs : List
 -- the image has all of the volume, and the buffer has room for indirect blocks and holds what the
 -- image gives
 pub record CanWalk (v : Layout) (d : Device) (blocks : Blocks) : Type 0 where
-  pub volume : HasVolume v d
+  pub volume : FitsIn v d.size
   pub room : HasRoom v blocks
   pub holds : BlocksHold v d.contents blocks
 

@@ -6,13 +6,13 @@ use Rattle.ffs_volume.specs.{declared.Layout.Layout, Blocks.Inodes.inodes_of}
 use Rattle.ffs_walk.specs.Windows.{BlocksHold, WindowHolds}
 use Rattle.ffs_workspace.specs.{declared.workspace.{Windows.Windows, Workspace.Workspace}, Holds.IsFresh, Lengths.IsFor}
 use Rattle.ffs_workspace.specs.{Lengths.HoldWindows, Tables.TableHolds}
-use Rattle.ffs_layout.specs.HasVolume.{HasVolume}
+use Rattle.ffs_volume.specs.Disk.Areas.{FitsIn}
 
 -- its lists and windows have the lengths of the volume, and the image has all of the volume: what a phase
 -- needs. Its windows may hold what another image gave
 pub record IsReady (v : Layout) (d : Device) (w : Workspace) : Type 0 where
   pub made : IsFor v w
-  pub volume : HasVolume v d
+  pub volume : FitsIn v d.size
 
 -- it is ready, and its windows hold what this image gives: what is asked of them may be taken from them
 pub record CanRead (v : Layout) (d : Device) (w : Workspace) : Type 0 where

@@ -8,7 +8,7 @@ use Rattle.ffs_volume.specs.{Blocks.Inodes.{inode_of, inodes_of}, Disk.{Areas.{c
 use Rattle.ffs_volume.specs.Laws.Geometry.{IsAcceptedLayout}
 use Rattle.ffs_walk.specs.Windows.{FailsAt, ImageWith, WindowHolds, held_bytes}
 use Rattle.ffs_workspace.specs.declared.table.Table.{Table}
-use Rattle.ffs_layout.specs.HasVolume.{HasVolume}
+use Rattle.ffs_volume.specs.Disk.Areas.{FitsIn}
 
 -- a block of the inode table is whole pieces of n inodes
 pub record DividesBlock (v : Layout) (n : ℕ) : Type 0 where
@@ -70,7 +70,7 @@ pub record IsTableOf (v : Layout) (t : Table) : Type 0 where
 
 -- inodes can be read: the image has all of the volume, and the window holds what the image gives
 pub record CanReadInodes (v : Layout) (d : Device) (t : Table) : Type 0 where
-  pub volume : HasVolume v d
+  pub volume : FitsIn v d.size
   pub made : IsTableOf v t
   pub holds : WindowHolds d.contents t.window
 

@@ -1,8 +1,12 @@
 -- Where the parts of a volume lie, in fragments and in bytes: fs(5).
-use Rattle.std.specs.Prelude.{ℕ, ◌+◌, ◌-◌, ◌*◌, ◌/◌, ◌%◌, Bool, ◌&&◌, ◌||◌, not, nat_lt, nat_le, ◌==◌, ℤ, pos, ◌*ℤ◌}
+use Rattle.std.specs.Prelude.{ℕ, ◌+◌, ◌-◌, ◌*◌, ◌/◌, ◌%◌, ◌≤◌, Bool, ◌&&◌, ◌||◌, not, nat_lt, nat_le, ◌==◌, ℤ, pos, ◌*ℤ◌}
 use Rattle.std.specs.{Prelude.bit_and, Int.div_ceil}
 use Rattle.ffs_volume.specs.{declared.constants.TheConstants.{CSUM_SIZE, DINODE_SIZE}, Disk.Numbers.zero_if_negative}
 use Rattle.ffs_volume.specs.{Disk.{Numbers.all_below, Search.some_below}, declared.Layout.Layout}
+
+-- a volume of this layout fits in so many bytes
+abbrev pub FitsIn : Layout → ℕ → Type 0
+FitsIn v bytes = v.size * v.fsize ≤ bytes
 
 -- how far the parts of group c are moved from its base: cgoffset * (c & ~cgmask), with the
 -- complement in 32 bits

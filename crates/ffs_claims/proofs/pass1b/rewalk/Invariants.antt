@@ -3,7 +3,7 @@ use Rattle.ffs_volume.specs.Blocks.BlockCheck.{first_offer_lines, set_count}
 use Rattle.ffs_report.specs.{PhaseOutcome.SaidOf, Progress.progress}
 use Rattle.ffs_image.specs.Known.{ForBytes, IsContents}
 use Rattle.ffs_maps.specs.Bits.{bits_of}
-use Rattle.ffs_walk.specs.{Counts.{AreHeld, unread}, KeptRuns.runs_left, Rests.most_steps_left}
+use Rattle.ffs_walk.specs.{Counts.{AreHeld, unread}, KeptRuns.kept_runs_left, Rests.most_steps_left}
 use Rattle.ffs_claims.{proofs.Rewalks.{Rereads, Rewalking}, specs.Lines.of_lines}
 use Rattle.ffs_claims.specs.RescanRuns.{RunsPay, indirect_among, noted_runs, offers_of_runs}
 use Rattle.ffs_claims.proofs.pass1b.rewalk.Given as goal
@@ -23,10 +23,10 @@ invariant-loop-run g l =
       counted : RunsPay (g.I.Image.reads l.initial.image) (g.I.Image.reads l.image + unread l.runs.walk)
           begun.runs_again l.workspace.runs_again;
       indirect : ForBytes knows (λ bytes. g.I.Image.reads l.image + unread l.runs.walk
-          + indirect_among (runs_left bytes l.runs) ≤ g.I.Image.reads l.initial.image + indirect_among (all bytes));
-      walk : ForBytes knows (λ bytes. Rewalking l.number (all bytes) (runs_left bytes l.runs) begun l.workspace);
+          + indirect_among (kept_runs_left bytes l.runs) ≤ g.I.Image.reads l.initial.image + indirect_among (all bytes));
+      walk : ForBytes knows (λ bytes. Rewalking l.number (all bytes) (kept_runs_left bytes l.runs) begun l.workspace);
       said : SaidOf knows (λ bytes. of_lines (first_offer_lines (bits_of l.workspace.duplicates)
-          (offers_of_runs l.number (runs_left bytes l.runs))))
+          (offers_of_runs l.number (kept_runs_left bytes l.runs))))
           (λ bytes. of_lines (first_offer_lines (bits_of begun.duplicates) (offers_of_runs l.number (all bytes))))
           (progress g.W.Output.sink l.initial.report) (progress g.W.Output.sink l.report);
     }

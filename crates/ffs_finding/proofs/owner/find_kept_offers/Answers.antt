@@ -2,9 +2,9 @@ use Rattle.std.proofs.Common.{◌∙◌, ◌+◌, [], arith, refl, ap, length}
 use Rattle.std.proofs.lemmas.Result.{err_from_is_err_and}
 use Rattle.ffs_volume.specs.{Blocks.Steps.steps_of, Encodings.Replay.fresh_replay}
 use Rattle.ffs_report.proofs.Sinks.{took_nil}
-use Rattle.ffs_walk.{proofs.Counted.{top_held, top_unread}, specs.KeptRuns.{indirect_in, runs_left}}
+use Rattle.ffs_walk.{proofs.Counted.{top_held, top_unread}, specs.KeptRuns.{indirect_in, kept_runs_left}}
 use Rattle.ffs_walk.proofs.ReplayedRuns.{indirect_most, runs_counted}
-use Rattle.ffs_finding.{specs.Keepers.{lines_of_runs, run_lines}, proofs.Printing.{prints, stops}}
+use Rattle.ffs_finding.{specs.Keepers.{lines_of_runs, lines_of_run}, proofs.Printing.{prints, stops}}
 use Rattle.ffs_finding.proofs.{Replayed.{lines_next, lines_none, text_is}, Walking.{blocks_on, most_small}}
 use Rattle.ffs_finding.proofs.owner.find_kept_offers.Goals as goal
 
@@ -56,7 +56,7 @@ returns-in_err-print_run-clause-finds g c =
       found = record {
         image = c.in_ok-run.ensures.leaves.read ∙ inv.device;
         text = stops _ _ (λ b. lines_of_runs s.fragment s.number (c.loop-run.earlier + indirect_in run)
-            (runs_left b c.next.new.self)) _ (run_lines s.fragment s.number c.loop-run.earlier run) _ _ _ inv.printed
+            (kept_runs_left b c.next.new.self)) _ (lines_of_run s.fragment s.number c.loop-run.earlier run) _ _ _ inv.printed
             (λ b k. lines_next s.fragment s.number c.loop-run.earlier _ run _ _ (next b k) refl)
             (rw (text_is s c.loop-run.earlier run) at c.in_err-print_run.ensures);
       };
@@ -91,7 +91,7 @@ loop-run-preserved g c =
         indirect_most run.block,
       );
       paid = λ b k. omega (arith, inv.paid b k, paid, ap length (next b k), indirect_most run.block);
-      printed = prints _ _ _ _ (run_lines s.fragment s.number c.loop-run.earlier run) _ _ _ inv.printed
+      printed = prints _ _ _ _ (lines_of_run s.fragment s.number c.loop-run.earlier run) _ _ _ inv.printed
           (λ b k. lines_next s.fragment s.number c.loop-run.earlier _ run _ _ (next b k)
           (ap (λ n. c.loop-run.earlier + n) c.indirect_in-earlier.ensures))
           (rw (text_is s c.loop-run.earlier run) at c.in_ok-print_run.ensures);

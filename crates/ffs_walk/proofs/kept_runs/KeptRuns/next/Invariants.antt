@@ -1,6 +1,6 @@
 use Rattle.std.proofs.Common.{◌≡◌, ◌+◌, ◌≤◌}
 use Rattle.ffs_image.specs.Device.{ForContents}
-use Rattle.ffs_walk.specs.{Counts.{AreHeld, unread}, KeptRuns.runs_left, Rests.most_steps_left, Windows.KeepsBlocks}
+use Rattle.ffs_walk.specs.{Counts.{AreHeld, unread}, KeptRuns.kept_runs_left, Rests.most_steps_left, Windows.KeepsBlocks}
 use Rattle.ffs_walk.proofs.kept_runs.KeptRuns.next.Given as goal
 
 abbrev pub invariant-loop-step : goal.invariant-loop-step
@@ -12,7 +12,7 @@ invariant-loop-step g l =
       geometry : l.self.walk.geometry ≡ begun.walk.geometry;
       image : g.I.Image.device l.image ≡ d;
       blocks : KeepsBlocks begun.walk.geometry.layout d.contents l.initial.blocks l.blocks;
-      left : ForContents d.contents (λ bytes. runs_left bytes begun ≡ runs_left bytes l.self);
+      left : ForContents d.contents (λ bytes. kept_runs_left bytes begun ≡ kept_runs_left bytes l.self);
       falls : most_steps_left l.self.walk ≤ most_steps_left begun.walk;
       held : AreHeld l.initial.blocks begun.walk → AreHeld l.blocks l.self.walk;
       paid : AreHeld l.initial.blocks begun.walk → g.I.Image.reads l.image + unread l.self.walk
