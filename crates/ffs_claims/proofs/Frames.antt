@@ -84,9 +84,6 @@ pub offers_claimed : {l : Layout} {w : Workspace} {map : FragmentMap} {kept : �
     → StaySet (bits_of w.used) (bits_of map) → OffersOnly l w (record w { used = map; kept = kept })
 offers_claimed {w = w} m size used = let duplicates = stay (bits_of w.duplicates) in grind arith
 
-pub offers_none : {l : Layout} {w : Workspace} → IsFor l w → OffersOnly l w w
-offers_none {w = w} made = let found = found_none w in grind arith
-
 pub offers_then : {l : Layout} {u v w : Workspace} → OffersOnly l u v → OffersOnly l v w → OffersOnly l u w
 offers_then p q = let only = only_then p.claiming q.claiming in grind arith
 

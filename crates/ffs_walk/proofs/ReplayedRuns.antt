@@ -41,7 +41,7 @@ runs_next : (v : Layout) (cut : ℕ) (r : Replay) (step : Step) (steps : List St
 unfolding kept_runs
 runs_next v cut r step steps = ap (λ runs. step_run v cut r step ++ runs) (by_cut_runs v cut r step steps)
 
--- where a walk comes to a Run, it goes out; where it passes over a Tail or gaps, none does
+-- a Run that is next in a walk is given; of a Tail, and of gaps, none is
 pub run_left : (v v' : Layout) (cut cut' : ℕ) (r r' : Replay) (start len taken : ℕ) (block : Option ℕ)
     (R R' : List Step) → v' ≡ v → R ≡ Run start len block ∷ R' → is_replay_open cut r ≡ true →
     taken ≡ run_taken v' cut r start len → r' ≡ replay_step_by_cut v' cut r (Run start len block) → cut' ≡ cut →
