@@ -20,6 +20,7 @@ use Rattle.ffs_pathnames.specs.LineReads.{ReadsPathOnce}
 use Rattle.ffs_workspace.specs.{declared.workspace.Workspace.Workspace, Lengths.IsFor}
 use Rattle.ffs_workspace.specs.Holds.{HoldsBlockCheck, HoldsSurvey}
 use Rattle.ffs_pathnames.specs.Sees.{passed_of}
+use Rattle.std.specs.Prelude.{if◌then◌else◌}
 
 -- the messages are the same as with the volume's own attributes and paths
 abbrev pub IsEnough : Volume → Verdict → (dir number : ℕ) → List ℕ → Attr → (path directory : List ℕ) → Type 0

@@ -13,6 +13,7 @@ use Rattle.ffs_volume.specs.Messages.Kinds.{TreeMessage}
 use Rattle.ffs_volume.specs.Messages.Kinds.{reported, of_directory}
 use Rattle.ffs_volume.specs.Encodings.Kinds.{is_dir_kind, is_empty_dir_kind}
 use Rattle.ffs_volume.specs.declared.tree_lines.DirectoryLine.TheVariants.{RootNone, RootNotDir, RootSuspect}
+use Rattle.std.specs.Prelude.{if◌then◌else◌}
 
 -- what is reported of the root, by its kind and by whether it is marked
 unfoldable pub root_reported : ℕ → Bool → List TreeMessage

@@ -198,7 +198,7 @@ fn check_tree<I: Image, W: Output>(
 ///
 /// # Errors
 /// A write of the report that failed.
-#[tactic(auto, unfolding(crate::specs::Before::root_reported))]
+#[tactic(auto, unfolding(crate::specs::RootAnswers::root_reported))]
 fn report_root<W: Output>(
     kind: u8,
     marked: bool,
