@@ -1,5 +1,5 @@
 -- What is known of an image's bytes during the pathname check of a directory.
-use Rattle.std.specs.Prelude.{◌≡◌, ℕ, true, IsTrue, List, Option, Some}
+use Rattle.std.specs.Prelude.{◌≡◌, ℕ, true, IsTrue, List, Option}
 use Rattle.ffs_image.specs.Device.{Device}
 use Rattle.ffs_image.specs.Known.{ForBytes, IsContents}
 use Rattle.ffs_volume.specs.{declared.Layout.Layout, Blocks.Inodes.inode_of, Directories.Graph.Graph}
