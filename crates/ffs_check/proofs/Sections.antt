@@ -100,8 +100,7 @@ pub heads : {T : Type 0} {start report report' : Progress} {done : List Message}
     (heading : Message) (later : List Message) → done ++ (heading ∷ []) ≡ phase1 ∷ later → Headed done start report →
     HeadingFirst heading report report' r → Leads (phase1 ∷ later) start report' r
 heads {done = done} r heading later e at first = says_on r later (heading ∷ first.more) at first.says
-    (subst (λ (xs : List Message). HasSections xs (at.messages ++ (heading ∷ first.more))) e
-    (one_more done at.messages heading first.more at.sections))
+    (rw e at one_more done at.messages heading first.more at.sections)
 
 -- the messages of a report
 messages_of : {T : Type 0} {knows : List ℕ → Type 0} {all : List ℕ → List Message} {old new : Progress}

@@ -366,12 +366,12 @@ summary_reports (Ok x) kept say = says_all (summary_right say) say.said
 summary_reports (Err (Read fault)) kept say = absurd (omega (arith, kept.rose))
 summary_reports (Err (Out fault)) kept say = stops_all (summary_right say) say.said
 
--- after the summary nothing is to come
-abbrev summed_up : Point
-summed_up =
-    record { Sure = Unit {0}; Holds = λ bytes. Unit {0}; heads = all_headings; rest = λ bytes. []; left = each 0 }
-
 module _ (s : Superblock) {d on : Device} {w u : Workspace} {start report report' : Progress} {reads now : ℕ} where
+  -- after the summary
+  abbrev summed_up : Point
+  summed_up =
+      record { Sure = Unit {0}; Holds = λ bytes. Unit {0}; heads = all_headings; rest = λ bytes. []; left = each 0 }
+
   pub summary_comes : {T : Type 0} (r : Result T RunFault) (root : Root) → is_go root ≡ true →
       Stage s d w start reads (phase5_done s d w u root) on report now → ((image : Device) → ImageAfter image image r) →
       SaysSummary s u report report' r → IsReady s.layout on u →
@@ -392,8 +392,5 @@ module _ (s : Superblock) {d on : Device} {w u : Workspace} {start report report
       (continues {T = T} (Err fault) (phase2 ∷ phase3 ∷ phase4 ∷ phase5 ∷ []) at.headed text)
       (spends_left _ (Err fault) text (omega arith) (λ bytes k. omega arith))
       (λ bytes k. sym (append-nil (summary_messages bytes s)))
-      (λ f is.
-      let faulted : ImageAfter {T = T} on on (Err (Read f)) =
-      subst (λ (r : Result T RunFault). ImageAfter on on r) is (kept on) in
-      absurd (omega (arith, faulted.rose))) tt at.sure.answers.dups
+      (λ f is. let none = rw is at (kept on) in absurd (omega (arith, none.rose))) tt at.sure.answers.dups
       at.sure.answers.most ready
