@@ -5,7 +5,7 @@ use Rattle.ffs_image.specs.Device.{Device}
 use Rattle.ffs_volume.specs.{Disk.Superblock.Superblock, Report.Opening.opening_lines}
 use Rattle.ffs_report.specs.Sink.{Sink}
 use Rattle.ffs_volume.specs.{declared.End.End, Report.Whole.end_by, Messages.Kinds.{Message, cannot_read, phase1, phase2}}
-use Rattle.ffs_report.specs.{PhaseOutcome.{HeadingFirst, PhaseReports, SaysBeforeFault}, Progress.{Progress, Said}}
+use Rattle.ffs_report.specs.{PhaseOutcome.{HeadingFirst, ImageAfter, PhaseReports}, Progress.{Progress, Said, Says}}
 use Rattle.ffs_report.specs.declared.fault.RunFault.{RunFault, TheVariants.{Read, Out}}
 use Rattle.ffs_report.proofs.Reports.{said_none, said_then, stopped_after}
 use Rattle.ffs_pathnames.specs.declared.pass2.Root.{Root, TheVariants.{Go, Stop}}
@@ -70,55 +70,87 @@ pub record Headed (headings : List Message) (start now : Progress) : Type 0 wher
   pub sections : HasSections headings messages
 
 -- nothing was said yet
-pub unheaded : {start : Progress} → Headed [] start start
-unheaded {start} = record { messages = []; said = said_none start; sections = refl }
+pub unheaded : (start : Progress) → Headed [] start start
+unheaded start = record { messages = []; said = said_none start; sections = refl }
 
 -- further headings were said, or a phase answered a fault
-abbrev pub Leads : {T : Type 0} → List Message → (start now : Progress) → Result T RunFault → Type 0
+abbrev Leads : {T : Type 0} → List Message → (start now : Progress) → Result T RunFault → Type 0
 Leads headings start now (Ok x) = Headed headings start now
 Leads headings start now (Err fault) = SaysSections start now (Err fault)
 
--- more messages were said, and the headings are these then
-says_on : {T : Type 0} {start report report' : Progress} {done : List Message} (r : Result T RunFault)
-    (later more : List Message) (at : Headed done start report) → SaysBeforeFault more report report' r →
-    HasSections (phase1 ∷ later) (at.messages ++ more) → Leads (phase1 ∷ later) start report' r
-says_on (Ok x) later more at says s =
-    record { messages = at.messages ++ more; said = said_then _ _ _ at.messages more at.said says; sections = s }
-says_on (Err (Read fault)) later more at says s = record {
-  messages = at.messages ++ more;
-  says = said_then _ _ _ at.messages more at.said says;
-  sections = first_alone phase1 later _ s;
-}
-says_on (Err (Out fault)) later more at says s = record {
-  messages = at.messages ++ more;
-  says = stopped_after _ _ _ at.messages more at.said says;
-  sections = first_alone phase1 later _ s;
-}
-
 -- a phase says its heading first
-pub heads : {T : Type 0} {start report report' : Progress} {done : List Message} (r : Result T RunFault)
+pub heads : {T : Type 0} {start report report' : Progress} (r : Result T RunFault) (done : List Message)
     (heading : Message) (later : List Message) → done ++ (heading ∷ []) ≡ phase1 ∷ later → Headed done start report →
-    HeadingFirst heading report report' r → Leads (phase1 ∷ later) start report' r
-heads {done = done} r heading later e at first = says_on r later (heading ∷ first.more) at first.says
-    (rw e at one_more done at.messages heading first.more at.sections)
+    HeadingFirst heading report report' r → Leads (done ++ (heading ∷ [])) start report' r
+heads (Ok x) done heading later e at first = record {
+  messages = at.messages ++ (heading ∷ first.more);
+  said = said_then _ _ _ at.messages (heading ∷ first.more) at.said first.says;
+  sections = one_more done at.messages heading first.more at.sections;
+}
+heads (Err (Read fault)) done heading later e at first = record {
+  messages = at.messages ++ (heading ∷ first.more);
+  says = said_then _ _ _ at.messages (heading ∷ first.more) at.said first.says;
+  sections = first_alone phase1 later _ (subst (λ (xs : List Message). HasSections xs (at.messages ++ (heading ∷ first.more))) e
+      (one_more done at.messages heading first.more at.sections));
+}
+heads (Err (Out fault)) done heading later e at first = record {
+  messages = at.messages ++ (heading ∷ first.more);
+  says = stopped_after _ _ _ at.messages (heading ∷ first.more) at.said first.says;
+  sections = first_alone phase1 later _ (subst (λ (xs : List Message). HasSections xs (at.messages ++ (heading ∷ first.more))) e
+      (one_more done at.messages heading first.more at.sections));
+}
 
--- the messages of a report
-messages_of : {T : Type 0} {knows : List ℕ → Type 0} {all : List ℕ → List Message} {old new : Progress}
-    (r : Result T RunFault) → PhaseReports knows all old new r →
-    (messages : List Message) × SaysBeforeFault messages old new r
-messages_of (Ok x) text = (text.messages, text.said)
-messages_of (Err (Read fault)) text = (text.prefix.messages, text.prefix.said)
-messages_of (Err (Out fault)) text = (text.messages, text.stopped)
+-- phase 1b, or nothing, says messages after phase 1
+pub continues : {T : Type 0} (knows : List ℕ → Type 0) (all : List ℕ → List Message) {start report : Progress}
+    (report' : Progress) (r : Result T RunFault) → Headed (phase1 ∷ []) start report → PhaseReports knows all report report' r →
+    Leads (phase1 ∷ []) start report' r
+continues knows all report' (Ok x) at text = record {
+  messages = at.messages ++ text.messages;
+  said = said_then _ _ _ at.messages text.messages at.said text.said;
+  sections = longer phase1 [] at.messages text.messages at.sections;
+}
+continues knows all report' (Err (Read fault)) at text = record {
+  messages = at.messages ++ text.prefix.messages;
+  says = said_then _ _ _ at.messages text.prefix.messages at.said text.prefix.said;
+  sections = longer phase1 [] at.messages text.prefix.messages at.sections;
+}
+continues knows all report' (Err (Out fault)) at text = record {
+  messages = at.messages ++ text.messages;
+  says = stopped_after _ _ _ at.messages text.messages at.said text.stopped;
+  sections = longer phase1 [] at.messages text.messages at.sections;
+}
 
--- phase 1b, or nothing, and the summary say messages of the last section
-pub continues : {T : Type 0} {knows : List ℕ → Type 0} {all : List ℕ → List Message} {start report report' : Progress}
-    (r : Result T RunFault) (later : List Message) → Headed (phase1 ∷ later) start report →
-    PhaseReports knows all report report' r → Leads (phase1 ∷ later) start report' r
-continues r later at text =
-    let said = messages_of r text in
-    says_on r later said.0 at said.1 (longer phase1 later at.messages said.0 at.sections)
+-- the summary, which reads nothing, belongs to the last section
+pub sums_up : {T : Type 0} {start report : Progress} (report' : Progress) (r : Result T RunFault)
+    (later summary : List Message) →
+    Headed (phase1 ∷ later) start report → ((image : Device) → ImageAfter image image r) →
+    Says report report' summary r → Leads (phase1 ∷ later) start report' r
+sums_up report' (Ok x) later summary at kept says = record {
+  messages = at.messages ++ summary;
+  said = said_then _ _ _ at.messages summary at.said says;
+  sections = longer phase1 later at.messages summary at.sections;
+}
+sums_up report' (Err (Read fault)) later summary at kept says =
+    let none : Device = record { contents = None; size = 0; failures = 0; failed_sector = 0; lent = [] } in
+    absurd (let rose = (kept none).rose in omega arith)
+sums_up report' (Err (Out fault)) later summary at kept says = record {
+  messages = at.messages ++ summary;
+  says = stopped_after _ _ _ at.messages summary at.said says;
+  sections = first_alone phase1 later _ (longer phase1 later at.messages summary at.sections);
+}
 
 -- ---- by the answer of the phases, and by the end
+-- all phases ran, or the check stops after the root
+pub all_said : {start now : Progress} (root : Root) → root ≡ Go → Headed all_headings start now →
+    SaysSections start now (Ok root)
+all_said {start} {now} root e at = subst (λ (r : Root). SaysSections start now (Ok r)) (sym e)
+    (record { messages = at.messages; says = at.said; sections = at.sections })
+
+pub two_said : {start now : Progress} (root : Root) → root ≡ Stop → Headed (phase1 ∷ phase2 ∷ []) start now →
+    SaysSections start now (Ok root)
+two_said {start} {now} root e at = subst (λ (r : Root). SaysSections start now (Ok r)) (sym e)
+    (record { messages = at.messages; says = at.said; sections = at.sections })
+
 -- the messages after an opening went out in the sections of the headings that come before an end
 abbrev pub HeadingsWentOut : Sink → Sink → End → Type 0
 HeadingsWentOut old new end = IfSome (headings_before end) (TookSections [] old new)
