@@ -1,5 +1,5 @@
 -- What the opening of a check prints, and its answer.
-use Rattle.std.specs.Prelude.{◌≡◌, ◌⊎◌, ◌≤◌, ◌+◌, ◌*◌, ◌||◌, ◌∷◌, [], ℕ, Bool, false, List, Option, Result, Ok, Err, MatchResult}
+use Rattle.std.specs.Prelude.{◌≡◌, ◌⊎◌, ◌≤◌, ◌+◌, ◌||◌, ◌∷◌, [], ℕ, Bool, false, List, Option, Result, Ok, Err, MatchResult}
 use Rattle.ffs_image.specs.Device.{ForContents}
 use Rattle.ffs_volume.specs.declared.SuperFault.{SuperFault, TheVariants.CannotRead}
 use Rattle.ffs_volume.specs.{declared.End.{End, TheVariants.{Refused, WriteFault}}, Report.Reads.opening_reads}

@@ -1,5 +1,5 @@
 -- What a check takes of its memory.
-use Rattle.std.specs.Prelude.{◌≡◌, ◌≤◌, ◌*◌, ◌⊎◌, ℕ, Option, Ok}
+use Rattle.std.specs.Prelude.{◌≡◌, ◌≤◌, ◌⊎◌, ℕ, Option, Ok}
 use Rattle.ffs_image.specs.Device.{Device, ForContents}
 use Rattle.ffs_memory.specs.{Account.{Account, Granted, GaveUp, RefusedOneMore}}
 use Rattle.ffs_volume.specs.{declared.End.{End, TheVariants.NoMemory}, Report.Memory.held_limit, Disk.Outcome.outcome}
