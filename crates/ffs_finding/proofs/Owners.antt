@@ -1,10 +1,10 @@
 -- The lines of inodes, one after another.
-use Rattle.std.proofs.Common.{◌≡◌, ◌∙◌, ℕ, ◌+◌, ◌-◌, ◌<◌, ◌≤◌, true, false, List, [], ◌++◌, arith, refl}
-use Rattle.std.{proofs.lemmas.Bool.Decides.nat_tests, specs.List.{flat_map, range_with_len}}
+use Rattle.std.proofs.Common.{◌≡◌, ◌∙◌, ℕ, ◌+◌, ◌-◌, ◌<◌, ◌≤◌, false, List, [], ◌++◌, arith, refl}
+use Rattle.std.{specs.List.{flat_map, range_with_len}}
 use Rattle.ffs_volume.proofs.{CutLaws.cut_is, OwnerLaws.before_next, ReplayLaws.replay_is_runs}
 use Rattle.ffs_volume.specs.Blocks.{Claims.{at_next_inode, after_steps}, KeptSteps.claims_before, Inodes.inode_of}
 use Rattle.ffs_volume.specs.Blocks.Inodes.{class_of, is_allocated, is_file_or_dir, inodes_of}
-use Rattle.ffs_volume.specs.{Directories.Volumes.{class_at, is_inode_number}, Encodings.Kinds.kind_at}
+use Rattle.ffs_volume.specs.{Directories.Volumes.{class_at}, Encodings.Kinds.kind_at}
 use Rattle.ffs_volume.specs.declared.Class.{Class, TheVariants.{Free, Partial, Unknown, File, Dir}}
 use Rattle.ffs_volume.specs.{Blocks.{Owners.owner_of, Steps.steps_of}, Encodings.Replay.{cut_of, fresh_replay}}
 use Rattle.ffs_volume.specs.{Encodings.ReplayCounts.replayed_runs, Laws.Geometry.IsAcceptedLayout}

@@ -1,12 +1,12 @@
 -- The lines of an inode that is walked over again, Run by Run.
-use Rattle.std.proofs.Common.{◌≡◌, ℕ, zero, suc, ◌+◌, ◌≤◌, true, false, ◌==◌, if◌then◌else◌, List, [], ◌∷◌, ◌++◌}
+use Rattle.std.proofs.Common.{◌≡◌, ℕ, zero, suc, ◌+◌, ◌≤◌, true, ◌==◌, List, [], ◌∷◌, ◌++◌}
 use Rattle.std.proofs.Common.{map, arith, refl, ap, ◌∙◌, inl, inr, Option, None, Some, append-nil}
 use Rattle.std.{proofs.lemmas.Bool.{cases_Bool, Decides.nat_tests}, specs.List.{concat, list_any, range_with_len}}
 use Rattle.ffs_volume.proofs.ReplayIsKeeping.{replay_of, seen_replays, step_replays, step_few}
 use Rattle.ffs_volume.specs.Blocks.Claims.{Claims, at_next_inode, is_open, after_step, after_steps}
 use Rattle.ffs_volume.specs.Blocks.KeptOffers.{kept_in_step, offer_of}
 use Rattle.ffs_volume.specs.Encodings.Replay.{fresh_replay, cut_of}
-use Rattle.ffs_volume.specs.{declared.{Layout.Layout, Step.{Step, TheVariants.{Run, Tail, Gap}}}}
+use Rattle.ffs_volume.specs.{declared.{Layout.Layout, Step.{Step, TheVariants.{Run}}}}
 use Rattle.ffs_volume.specs.Find.Owner.{indirect_in, keeper_lines_of_step, keeper_lines_of_steps}
 use Rattle.ffs_walk.specs.Keepings.{run_taken}
 use Rattle.ffs_walk.specs.{KeptRuns.{indirect_by, kept_runs, step_run}, declared.kept_runs.KeptRun.KeptRun}

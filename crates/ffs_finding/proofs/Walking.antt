@@ -1,5 +1,5 @@
 -- How the walk over the blocks of an inode continues, and how many steps it has at most.
-use Rattle.std.proofs.Common.{◌≡◌, ℕ, ◌+◌, ◌*◌, ◌-◌, ◌<◌, ◌≤◌, ◌^◌, arith, true, List, Option, Some, None}
+use Rattle.std.proofs.Common.{◌≡◌, ℕ, ◌+◌, ◌*◌, ◌-◌, ◌<◌, ◌≤◌, ◌^◌, arith, List, Option}
 use Rattle.std.proofs.lemmas.Nat.{mul-le}
 use Rattle.ffs_image.specs.Device.{Device}
 use Rattle.ffs_layout.specs.declared.geometry.Geometry.{Geometry}

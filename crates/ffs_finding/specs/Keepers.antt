@@ -1,5 +1,5 @@
 -- What the program knows of the inodes that keep an offer of a fragment, and what its parts leave.
-use Rattle.std.specs.Prelude.{◌≡◌, ◌+◌, ◌*◌, ◌<◌, ◌≤◌, ℕ, Bool, ◌&&◌, List, [], ◌∷◌, ◌++◌, length}
+use Rattle.std.specs.Prelude.{◌≡◌, ◌+◌, ◌<◌, ◌≤◌, ℕ, Bool, ◌&&◌, List, [], ◌∷◌, ◌++◌, length}
 use Rattle.std.specs.Prelude.{if◌then◌else◌, nat_le, nat_lt, slice_index, vec_len, Result}
 use Rattle.ffs_volume.specs.declared.{Inode.Inode, Layout.Layout, Step.Step}
 use Rattle.ffs_volume.specs.{Blocks.{Inodes.{inode_of, inodes_of}, Steps.steps_of}, Encodings.Replay.fresh_replay}

@@ -1,5 +1,5 @@
 -- The map of a group as the program compares it with what is used, and what it prints of it.
-use Rattle.std.specs.Prelude.{◌≡◌, ◌≤◌, ◌<◌, ◌+◌, ◌-◌, ◌*◌, ℕ, Bool, not, ◌&&◌, List, [], ◌∷◌, codes, length, Result}
+use Rattle.std.specs.Prelude.{◌≡◌, ◌≤◌, ◌<◌, ◌+◌, ◌-◌, ℕ, Bool, not, ◌&&◌, List, [], ◌∷◌, codes, length, Result}
 use Rattle.std.specs.{Prelude.vec_len, List.flat_map, Int.div_ceil}
 use Rattle.ffs_image.specs.Device.{Device}
 use Rattle.ffs_volume.specs.{declared.Layout.Layout, Groups.Records.{bit_at, group_block, group_numbers}}
