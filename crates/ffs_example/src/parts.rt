@@ -3,7 +3,6 @@
 
 ghost use Rattle.std.specs.Prelude.{◌≡◌, ◌≤◌, ◌*◌};
 ghost use Rattle.ffs.specs.Cited.{IsReady};
-ghost use Rattle.ffs_volume.specs.Disk.Areas.{FitsIn};
 
 use ffs::{
     Args, Counted, Geometry, Image, Output, PathText, Report, Root, RunFault, Super, Workspace,
@@ -99,7 +98,8 @@ fn print_volume<I: Image>(
     image: &mut I,
     rest: &[u8],
 ) -> io::Result<()>
-    requires { FitsIn superblock.now.geometry.layout (I.device image.old).size }
+    requires { superblock.now.geometry.layout.size * superblock.now.geometry.layout.fsize
+        ≤ (I.device image.old).size }
 {
     print_places(rt, &superblock.geometry)?;
     match Workspace::new(rt.alloc(), &superblock.geometry) {
@@ -134,7 +134,8 @@ fn print_end<I: Image>(
     image: &mut I,
     rest: &[u8],
 ) -> io::Result<()>
-    requires { FitsIn superblock.now.geometry.layout (I.device image.old).size }
+    requires { superblock.now.geometry.layout.size * superblock.now.geometry.layout.fsize
+        ≤ (I.device image.old).size }
 {
     match Workspace::new(rt.alloc(), &superblock.geometry) {
         Ok(mut workspace) => print_rest(rt, superblock, image, &mut workspace, rest),
