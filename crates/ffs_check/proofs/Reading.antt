@@ -5,7 +5,7 @@ use Rattle.ffs_volume.specs.{declared.{Layout.Layout, SuperFault.SuperFault}, Di
 use Rattle.ffs_volume.specs.{Disk.Superblock.Superblock, Report.{Reads.{opening_reads, phase_reads}, Whole.phase_lines}}
 use Rattle.ffs_volume.specs.Report.{Opening.opening_lines, Whole.report_of}
 use Rattle.ffs_layout.specs.{declared.superblock.Super.Super, Super.{ReadsSuper, superblock_in}}
-use Rattle.ffs_image.specs.Known.{ForBytes, IsContents}
+use Rattle.ffs_image.specs.Device.{ForContents}
 use Rattle.ffs_check.specs.{Moment.Moment, Opening.OpeningOf, Reads.{PhasesReadWithin, ReadsWithin}}
 use Rattle.ffs_check.proofs.{Headlines.whole_there, Openings.{found_of, unfailed_of}}
 
@@ -22,13 +22,13 @@ report_among bytes name sector s accepted =
 -- a superblock was accepted, and the phases follow, or nothing is read any more
 pub found_within : (name : List ℕ) (sector : Option ℕ) (old on new : Moment) (found : Super) →
     OpeningOf name sector old on (Ok found) → on.reads ≤ old.reads + opening_reads →
-    ForBytes (IsContents on.image.contents) (λ bytes. PhasesReadWithin (superblock_in found) bytes on.reads new.reads) →
+    ForContents on.image.contents (λ bytes. PhasesReadWithin (superblock_in found) bytes on.reads new.reads) →
     ReadsWithin name sector old new
 found_within name sector old on new found o opened follows =
     let answers = subst (ReadsSuper old.image on.image sector) o.ends.1 o.super_is_read in
     let still = unfailed_of old.image on.image sector (superblock_in found) answers in
     let is = found_of old.image on.image sector (superblock_in found) answers in
-    let there : ForBytes (IsContents old.image.contents) (λ bytes. (s : Superblock) → outcome bytes sector ≡ Ok s →
+    let there : ForContents old.image.contents (λ bytes. (s : Superblock) → outcome bytes sector ≡ Ok s →
     PhasesReadWithin s bytes on.reads new.reads) = λ bytes t s e.
     let same : superblock_in found ≡ s = ap (λ r. found_or r s) (is bytes t ∙ e) in
     subst (λ x. PhasesReadWithin x bytes on.reads new.reads) same (follows bytes (ap (λ d. d.contents) still ∙ t)) in

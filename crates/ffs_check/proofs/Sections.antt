@@ -110,13 +110,13 @@ continues knows all report' (Ok x) at text = record {
   sections = longer phase1 [] at.messages text.messages at.sections;
 }
 continues knows all report' (Err (Read fault)) at text = record {
-  messages = at.messages ++ text.prefix.messages;
-  says = said_then _ _ _ at.messages text.prefix.messages at.said text.prefix.said;
-  sections = longer phase1 [] at.messages text.prefix.messages at.sections;
+  messages = at.messages ++ text.messages;
+  says = said_then _ _ _ at.messages text.messages at.said text.told;
+  sections = longer phase1 [] at.messages text.messages at.sections;
 }
 continues knows all report' (Err (Out fault)) at text = record {
   messages = at.messages ++ text.messages;
-  says = stopped_after _ _ _ at.messages text.messages at.said text.stopped;
+  says = stopped_after _ _ _ at.messages text.messages at.said text.told;
   sections = longer phase1 [] at.messages text.messages at.sections;
 }
 

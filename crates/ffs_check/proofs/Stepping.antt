@@ -31,7 +31,7 @@ use Rattle.ffs_pathnames.specs.{declared.pass2.Root.{Root, TheVariants.{Go, Stop
 use Rattle.ffs_workspace.specs.{declared.workspace.Workspace.Workspace, Leaves.{LeavesBlockCheck, LeavesSurvey}}
 use Rattle.ffs_workspace.specs.{Ready.IsReady, Found.{WithFresh, WithBlockCheck, WithSurvey, WithFindings}}
 use Rattle.ffs_workspace.specs.Holds.{HoldsBlockCheck, HoldsFindings}
-use Rattle.ffs_workspace.proofs.Leaving.{claims_held, claims_left, references_left, survey_left}
+use Rattle.ffs_workspace.proofs.Leaving.{claims_left, findings_held, references_left, survey_left}
 use Rattle.ffs_check.proofs.Stages.{some_more, more_after, root_or_more, Left, each, Point, Given, Stage, report_at}
 use Rattle.ffs_check.proofs.Stages.{RunsPhases, Spends, Ran, begun, phase1_done, phase1b_done, Rooted, phase2_done}
 use Rattle.ffs_check.proofs.Stages.{phase3_done, phase4_done, phase5_done, root_stays, windows_stay}
@@ -65,8 +65,9 @@ module _ (s : Superblock) where
   ends : {d on : Device} {w u : Workspace} {start report : Progress} {reads now : ℕ}
       {P : Point} (root : Root) → Stage s d w start reads P on report now →
       SaidWhole (not (is_go root)) (WithFresh s.layout d w) (λ bytes. phase_lines bytes s) start report →
-      Rooted s d w u root → IsReady s.layout on u → RunsPhases s d on w u start report reads now (Ok root)
-  ends root at whole sure ready = record {
+      Rooted s d w u root → ForBytes (WithFresh s.layout d w) (λ bytes. HoldsFindings s.layout bytes u) →
+      IsReady s.layout on u → RunsPhases s d on w u start report reads now (Ok root)
+  ends root at whole sure found ready = record {
     ran = record {
       image = at.image;
       text = whole;
@@ -76,7 +77,7 @@ module _ (s : Superblock) where
       known = λ bytes k. let within = at.read bytes k in within_both s at.sound bytes (omega (arith, within));
       paid = paid_answer (paid_within at.paid (omega arith) (omega arith));
     };
-    leaves = record { answers = sure.answers; ready = ready };
+    leaves = record { answers = sure.answers; holds = λ _. found; ready = ready };
   }
 
   -- a phase answered a fault: what was read
@@ -118,16 +119,15 @@ module _ (s : Superblock) where
         ForBytes (Given on P.Holds) (λ bytes. 0 < length (rest' bytes)) →
         HaveRun s w (report_at d reads start) (report_at on' now' report') (Err fault)
     says (Read fault) rest' at knows ran e more =
-        let prefix = ran.text.prefix in
         record {
           image = rw at.image at ran.image;
           text = record {
             rest = λ bytes. ran.text.rest bytes ++ rest' bytes;
-            prefix = of_says {rest' = λ bytes. ran.text.rest bytes ++ rest' bytes} {ms = prefix.messages} at.said
+            prefix = of_says {rest' = λ bytes. ran.text.rest bytes ++ rest' bytes} {ms = ran.text.messages} at.said
                 (λ bytes k. let known = given at bytes k in
                 e bytes known ∙ ap (λ (xs : List Message). xs ++ rest' bytes)
-                (sym (prefix.right bytes (knows bytes known)))
-                ∙ append_assoc prefix.messages (ran.text.rest bytes) (rest' bytes))
+                (sym (ran.text.right bytes (knows bytes known)))
+                ∙ append_assoc ran.text.messages (ran.text.rest bytes) (rest' bytes))
                 prefix.said;
             more = λ bytes k. more_after (ran.text.rest bytes) (rest' bytes) (more bytes (given at bytes k));
           };
@@ -156,7 +156,7 @@ module _ (s : Superblock) where
     next (Err fault) Q at knows ran spent e more found dups few ready = record {
       ran = says fault Q.rest at knows ran e more;
       reads = pays _ fault Q.left at (spends_knowing knows spent);
-      leaves = record { answers = unanswered dups few; ready = ready };
+      leaves = unanswered dups few ready;
     }
 
   -- ---- the phases
@@ -265,9 +265,7 @@ module _ (s : Superblock) where
       ran = says_root _ u' fault at ran left;
       reads = pays _ fault (record { any = group_reads s.layout; known = λ bytes. 0 }) at
           (spends_names s (λ bytes. 0) named paid (λ bytes k. omega arith));
-      leaves =
-          let stay = answers_stay at.sure stays in
-          record { answers = unanswered stay.dups stay.most; ready = ready };
+      leaves = let stay = answers_stay at.sure stays in unanswered stay.dups stay.most ready;
     }
 
     -- the check ends after the root: its message is the last
@@ -283,7 +281,7 @@ module _ (s : Superblock) where
         ap (λ (go : Bool). phase2_messages s.layout bytes ++ after_phase2 go bytes s)
         (left.0 bytes (known.0, known.1.0)).0
         ∙ append-nil (phase2_messages s.layout bytes) ∙ sym (stop.right bytes (known.0, known.1.0)))
-        stop.said stop.stops) at.sure ready
+        stop.said stop.stops) at.sure at.holds ready
 
     pub phase3_comes : {T : Type 0} (r : Result T RunFault) {root : Root} → is_go root ≡ true →
         Stage s d w start reads (phase2_done s d w u root) on report now →
@@ -295,7 +293,7 @@ module _ (s : Superblock) where
         (λ fault. RunsPhases s d on' w u' start report' reads now' (Err fault))
     phase3_comes r {root} goes at ran read paid survey ready =
         let sure = root_stays at.sure survey.findings.block_check in
-        next r (phase3_done s d w u' root) at (λ bytes k. (k.0, k.1.claims, k.1.survey)) ran
+        next r (phase3_done s d w u' root) at (λ bytes k. (k.0, k.1.block_check, k.1.survey)) ran
         (spends_lines (group_reads s.layout) (λ bytes. length (connectivity_lines (volume_of s.layout bytes)))
         (phase2_done s d w u root).left.known (phase3_done s d w u' root).left.known read paid
         (λ bytes k. rw goes (omega arith)))
@@ -317,7 +315,7 @@ module _ (s : Superblock) where
         (spends_lines (group_reads s.layout) (λ bytes. length (reference_lines (volume_of s.layout bytes)))
         (phase3_done s d w u root).left.known (phase4_done s d w u' root).left.known read paid (λ bytes k. omega arith))
         (λ bytes k. refl) (λ bytes k. some_more phase5 _)
-        (on_any r (sure, λ bytes k. claims_held s.layout bytes u u' held k.1.claims)) (at_error r sure.answers.dups)
+        (on_any r (sure, λ bytes k. findings_held s.layout bytes u u' held k.1)) (at_error r sure.answers.dups)
         sure.answers.most ready
 
     pub phase5_comes : {T : Type 0} (r : Result T RunFault) {root : Root} →
@@ -328,25 +326,26 @@ module _ (s : Superblock) where
         (λ fault. RunsPhases s d on' w u' start report' reads now' (Err fault))
     phase5_comes r {root} at ran few held ready =
         let sure = root_stays at.sure (windows_stay held) in
-        next r (phase5_done s d w u' root) at (λ bytes k. k) ran
+        next r (phase5_done s d w u' root) at (λ bytes k. (k.0, k.1.block_check)) ran
         (spends_left _ r ran.text (omega (arith, few)) (λ bytes k. omega (arith, few))) (λ bytes k. refl)
         (λ bytes k. some_more (summary_of s (file_count s.layout bytes) (claimed_count s.layout bytes)) [])
-        (on_any r (sure, λ bytes k. claims_held s.layout bytes u u' held k.1)) (at_error r sure.answers.dups)
+        (on_any r (sure, λ bytes k. findings_held s.layout bytes u u' held k.1)) (at_error r sure.answers.dups)
         sure.answers.most ready
 
   -- the summary reads nothing
   says_last : {d on : Device} {w : Workspace} {start report report' : Progress} {reads now : ℕ}
-      {T : Type 0} {P : Point} (now' : ℕ) (fault : RunFault) → Stage s d w start reads P on report now →
-      ((image : Device) → Ran {T = T} P.Holds P.rest image image report report' (Err fault)) →
+      {T : Type 0} {P : Point} (less : List ℕ → Type 0) (now' : ℕ) (fault : RunFault) →
+      Stage s d w start reads P on report now → ForBytes P.Holds less →
+      ((image : Device) → Ran {T = T} less P.rest image image report report' (Err fault)) →
       HaveRun s w (report_at d reads start) (report_at on now' report') (Err fault)
-  says_last now' (Read fault) at ran =
+  says_last less now' (Read fault) at knows ran =
       let none : Device = record { contents = None; size = 0; failures = 0; failed_sector = 0; lent = [] } in
       absurd (let rose = (ran none).image.rose in omega arith)
-  says_last {on = on} {T = T} {P = P} now' (Out fault) at ran = record {
+  says_last {on = on} {T = T} {P = P} less now' (Out fault) at knows ran = record {
     image = at.image;
     text = of_fault T Root _ _ P.rest (λ bytes. []) _ _ _ _ (Out fault) at.said
         (λ bytes k. sym (append-nil (P.rest bytes)))
-        (reports_knowing T _ _ P.rest _ _ (Err (Out fault)) at.holds (ran on).text);
+        (reports_knowing T _ _ P.rest _ _ (Err (Out fault)) (λ bytes k. knows bytes (at.holds bytes k)) (ran on).text);
     goes = tt;
   }
 
@@ -378,7 +377,7 @@ summary_ran s u report report' (Err (Out fault)) kept say image = record {
     messages = summary_of s say.files say.claimed ∷ [];
     rest = λ bytes. [];
     right = summary_right s u say.files say.claimed say.files_right say.claimed_right;
-    stopped = say.said;
+    told = say.said;
   };
 }
 
@@ -391,18 +390,18 @@ module _ (s : Superblock) {d on : Device} {w u : Workspace} {start report report
   summary_comes {T = T} (Ok x) root goes at kept say ready =
       let ran = summary_ran {T = T} s u report report' (Ok x) kept say in
       let done : Point = record { Sure = Unit {0}; Holds = λ bytes. Unit {0}; rest = λ bytes. []; left = each 0 } in
-      ends s root (passes s done at (λ bytes k. k.1) (ran on) (spends_knowing (λ bytes k. k.1)
+      ends s root (passes s done at (λ bytes k. k.1.block_check) (ran on) (spends_knowing (λ bytes k. k.1.block_check)
       (spends_left _ (Ok x) (ran on).text (omega arith) (λ bytes k. omega arith)))
       (λ bytes k. sym (append-nil (summary_messages bytes s))) tt (λ bytes k. tt))
       (whole_said [] (summary_of s say.files say.claimed) at.said
       (λ bytes k. sym (summary_right s u say.files say.claimed say.files_right say.claimed_right bytes
-      (given s at bytes k).1))
-      say.said (ap not (sym goes))) at.sure ready
+      (given s at bytes k).1.block_check))
+      say.said (ap not (sym goes))) at.sure at.holds ready
   summary_comes {T = T} (Err fault) root goes at kept say ready =
       let ran = summary_ran {T = T} s u report report' (Err fault) kept say in
       record {
-        ran = says_last s _ fault at ran;
-        reads = pays s {T = T} _ fault (each 0) at (spends_knowing (λ bytes k. k.1)
+        ran = says_last s _ _ fault at (λ bytes k. k.block_check) ran;
+        reads = pays s {T = T} _ fault (each 0) at (spends_knowing (λ bytes k. k.1.block_check)
             (spends_left _ (Err fault) (ran on).text (omega arith) (λ bytes k. omega arith)));
-        leaves = record { answers = unanswered at.sure.answers.dups at.sure.answers.most; ready = ready };
+        leaves = unanswered at.sure.answers.dups at.sure.answers.most ready;
       }

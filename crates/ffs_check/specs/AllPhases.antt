@@ -11,13 +11,14 @@ use Rattle.ffs_volume.specs.{Directories.{PathnameCheck.continues_after_root, Vo
 use Rattle.ffs_volume.specs.{Report.Whole.phase_lines, Messages.Kinds.{Message, cannot_alloc, cannot_read, has_defect}}
 use Rattle.ffs_volume.specs.{Messages.Kinds.{phase1, phase2, stops_check}, Report.{Memory.{runs_limit, held_of}, Opening.super_lines}}
 use Rattle.ffs_volume.specs.declared.Layout.{Layout}
-use Rattle.ffs_report.specs.PhaseOutcome.{ImageAfter, SaidOf, SaysBeforeFault, StoppedOf}
+use Rattle.ffs_report.specs.PhaseOutcome.{FirstMessages, ImageAfter, SaidOf, SaysBeforeFault}
 use Rattle.ffs_image.specs.Known.{ForBytes, IsContents}
 use Rattle.ffs_report.specs.{Progress.{Progress, Said, Stopped}, declared.fault.RunFault.{RunFault, TheVariants.Read}}
 use Rattle.ffs_report.specs.declared.fault.RunFault.TheVariants.{Out}
 use Rattle.ffs_pathnames.specs.{declared.pass2.Root.{Root, TheVariants.{Go, Stop}}, RootAnswers.is_go}
 use Rattle.ffs_memory.specs.Account.{Account}
-use Rattle.ffs_workspace.specs.{declared.workspace.Workspace.Workspace, Found.WithFresh, Lengths.IsFor, Ready.IsReady}
+use Rattle.ffs_workspace.specs.{declared.workspace.Workspace.Workspace, Found.WithFresh, Holds.HoldsFindings}
+use Rattle.ffs_workspace.specs.{Lengths.IsFor, Ready.IsReady}
 use Rattle.ffs_check.specs.{Ends.{Cut, Ends}, Headings.TookSections, Reads.PhasesRead}
 use Rattle.ffs_volume.specs.Report.Headings.{HasSections, all_headings, headings_before}
 use Rattle.ffs_check.specs.Rescan.{AnswersDups, HasAnswers}
@@ -49,7 +50,7 @@ abbrev pub ReportsAllPhases : (List ℕ → Type 0) → (List ℕ → List Messa
     Result Root RunFault → Type 0
 ReportsAllPhases knows all old new (Ok root) = SaidWhole (not (is_go root)) knows all old new
 ReportsAllPhases knows all old new (Err (Read fault)) = SaidNotAll knows all old new
-ReportsAllPhases knows all old new (Err (Out fault)) = StoppedOf knows all old new
+ReportsAllPhases knows all old new (Err (Out fault)) = FirstMessages knows all (Stopped old new)
 
 -- the phases have run: what they leave of the image; and, where the workspace held nothing before, what they reported,
 -- and whether the check continues after the root
@@ -81,9 +82,11 @@ pub record AnswersAfterPhases (whole : Bool) (knows : List ℕ → Type 0) (v : 
   pub dups : ForBytes knows (λ bytes. AnswersDups v bytes w w')
   pub most : w'.runs_seen ≤ runs_limit v
 
--- after the phases the workspace says how many Runs were looked at, and is ready for the image as it is now
+-- after the phases the workspace says how many Runs were looked at, and is ready for the image as it is now; where
+-- none failed it holds what they found
 pub record PhasesLeave (v : Layout) (d d' : Device) (w w' : Workspace) (result : Result Root RunFault) : Type 0 where
   pub answers : AnswersAfterPhases (is_ok result) (WithFresh v d w) v w w'
+  pub holds : is_ok result ≡ true → ForBytes (WithFresh v d w) (λ bytes. HoldsFindings v bytes w')
   pub ready : IsReady v d' w'
 
 -- the line of a failed read or of refused memory was said, and this is the end; or the output failed in it
@@ -144,12 +147,15 @@ can_end_report WriteFault = false
 can_end_report NoMemory = false
 
 -- the phases have run to an end: what went out, also of any image, how often they read an image that gives its
--- bytes, and any image, what the workspace answers then, and its lists keep their lengths
+-- bytes, and any image, what the workspace answers then, and holds after a whole report, and its lists keep their
+-- lengths
 pub record RunsToEnd (s : Superblock) (w w' : Workspace) (old new : Moment) (end : End) : Type 0 where
   pub ran : EndsAfterPhases (WithFresh s.layout old.image w) s old new end
   pub headings : IfSome (headings_before end) (TookSections [] old.out new.out)
   pub reads : PhasesRead (WithFresh s.layout old.image w) s old new
   pub answers : AnswersAfterPhases (can_end_report end) (WithFresh s.layout old.image w) s.layout w w'
+  pub holds : can_end_report end ≡ true → ForBytes (WithFresh s.layout old.image w)
+      (λ bytes. HoldsFindings s.layout bytes w')
   pub made : IsFor s.layout w'
 
 -- what follows an accepted superblock: the memory of the check was refused, and that was said; or

@@ -1,5 +1,6 @@
 -- What the opening of a check prints, and its answer.
-use Rattle.std.specs.Prelude.{◌≡◌, ◌⊎◌, ◌≤◌, ◌+◌, ◌||◌, ◌∷◌, [], ℕ, Bool, false, List, Option, Result, Ok, Err, MatchResult}
+use Rattle.std.specs.Prelude.{◌≡◌, ◌⊎◌, ◌≤◌, ◌+◌, ◌||◌, ◌∷◌, [], ℕ, Bool, false, List, Option, Some, None, Result}
+use Rattle.std.specs.Prelude.{Ok, Err, MatchResult}
 use Rattle.ffs_image.specs.Device.{ForContents}
 use Rattle.ffs_volume.specs.declared.SuperFault.{SuperFault, TheVariants.CannotRead}
 use Rattle.ffs_volume.specs.{declared.End.{End, TheVariants.{Refused, WriteFault}}, Report.Reads.opening_reads}
@@ -51,14 +52,19 @@ pub record OpeningOf (name : List ℕ) (asked_sector : Option ℕ) (old new : Mo
   pub super_is_read : ReadsSuper old.image new.image asked_sector found
   pub ends : OpeningEnds name asked_sector old new found result
 
+-- how often an opening reads the image at most: the superblock, and its last copy where no sector is asked for
+abbrev pub super_reads : (asked_sector : Option ℕ) → ℕ
+super_reads None = opening_reads
+super_reads (Some sector) = 1
+
 -- an accepted volume lies within the image, and a superblock that can't be read is a failed read, or
--- the image ends before it does. Two reads are made at most: of the superblock, and of its last copy
+-- the image ends before it does. No more is read than the superblock, and its last copy
 pub record AnswersOpening (asked_sector : Option ℕ) (old new : Moment) (result : Result Super End) : Type 0 where
   pub inside_or_unreadable : MatchResult result
       (λ super. FitsIn super.geometry.layout old.image.size)
       (λ end. (sector : ℕ) → end ≡ Refused (CannotRead sector)
       → IsUnreadable old.image new.image asked_sector sector)
-  pub reads : new.reads ≤ old.reads + opening_reads
+  pub reads : new.reads ≤ old.reads + super_reads asked_sector
 
 -- what the opening answers, and what went out of it
 pub record Opens (name : List ℕ) (asked_sector : Option ℕ) (old new : Moment) (result : Result Super End) : Type 0 where

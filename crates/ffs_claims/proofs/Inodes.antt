@@ -13,7 +13,7 @@ use Rattle.ffs_volume.specs.declared.{Class.{Class, TheVariants.Free}, Inode.Ino
 use Rattle.ffs_volume.specs.declared.Step.{Step, TheVariants.{Gap, Run, Tail}}
 use Rattle.ffs_report.proofs.Reporting.{of_part, of_begins, of_stops}
 use Rattle.ffs_image.specs.Known.{ForBytes}
-use Rattle.ffs_report.specs.{PhaseOutcome.{SaidOf, StoppedOf}, Progress.{Progress, Said, Stopped}}
+use Rattle.ffs_report.specs.{PhaseOutcome.{FirstMessages, SaidOf}, Progress.{Progress, Said, Stopped}}
 use Rattle.ffs_report.specs.declared.fault.RunFault.{RunFault}
 use Rattle.ffs_image.specs.Device.{Device}
 use Rattle.ffs_layout.specs.declared.geometry.Geometry.{Geometry}
@@ -109,7 +109,7 @@ class_said v number i s e k q = grind (arith, parts)
 
 pub class_stopped : {knows : List ℕ → Type 0} {a b : Progress} {class : Class} (v : Layout) (number : ℕ) (i : Inode)
     (s : Claims) → class ≡ class_of v i → Stopped a b (of_lines (class_lines number class)) →
-    StoppedOf knows (λ bytes. of_lines (owner_lines v s (owner_with v bytes number i))) a b
+    FirstMessages knows (λ bytes. of_lines (owner_lines v s (owner_with v bytes number i))) (Stopped a b)
 class_stopped v number i s k q = of_stops _ _ (rest_lines v number i (class_of v i) (at_next_inode s))
     _ _ _ _ _ of_begins (λ bytes t. parts v number i s bytes) (rw k at q)
 

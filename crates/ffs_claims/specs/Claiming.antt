@@ -8,9 +8,9 @@ use Rattle.ffs_volume.specs.{Blocks.Claims.step_lines, Disk.Areas.is_run_in_rang
 use Rattle.ffs_volume.specs.{Report.Memory.runs_without_claim, Costs.VolumeReads.indirect_in_steps}
 use Rattle.ffs_volume.specs.{Laws.{ClaimBounds.{used_bits, ClaimBound}, RunLengths.HasLength}, declared.Class.Class}
 use Rattle.ffs_volume.specs.declared.{Inode.Inode, Layout.Layout, Step.Step}
-use Rattle.ffs_image.specs.Device.{Device}
+use Rattle.ffs_image.specs.Device.{Device, ForContents}
 use Rattle.ffs_report.specs.{PhaseOutcome.{ImageAfter, PhaseReports}, Progress.Says}
-use Rattle.ffs_image.specs.Known.{ForBytes, IsContents}
+use Rattle.ffs_image.specs.Known.{IsContents}
 use Rattle.ffs_report.specs.declared.fault.RunFault.{RunFault}
 use Rattle.ffs_layout.specs.declared.geometry.Geometry.{Geometry}
 use Rattle.ffs_maps.specs.{Bits.bits_of, Reserved.with_reserved}
@@ -107,7 +107,7 @@ pub record ReadsByBlock {T : Type 0} (v : Layout) (number : ℕ) (old new : Phas
   pub again : HoldsInode old.workspace.windows.table number →
       (new.workspace.windows.table ≡ old.workspace.windows.table)
       × (new.reads + old.workspace.runs_seen ≤ old.reads + new.workspace.runs_seen)
-  pub known : HoldsInode old.workspace.windows.table number → ForBytes (IsContents old.image.contents)
+  pub known : HoldsInode old.workspace.windows.table number → ForContents old.image.contents
       (λ bytes. ReadsIndirect v (claims_of old.workspace) (owner_of v bytes number) old.reads new.reads)
   pub block : (HoldsInode old.workspace.windows.table number → ⊥)
       → OnOk result (HoldsPiece v v.inopb number new.workspace.windows.table)
@@ -160,15 +160,15 @@ pub record ClaimsSteps {T : Type 0} (g : Geometry) (owner : List ℕ → Owner) 
   pub text : PhaseReports (IsContents old.image.contents) (λ bytes.
       of_lines (lines_of_steps g.layout (owner bytes).number (claims_of old.workspace) (owner bytes).steps))
       old.report new.report result
-  pub claims : OnOk result (ForBytes (IsContents old.image.contents) (λ bytes.
+  pub claims : OnOk result (ForContents old.image.contents (λ bytes.
       claims_of new.workspace ≡ after_steps g.layout (claims_of old.workspace) (owner bytes).steps))
   pub image : ImageAfter old.image new.image result
   pub left : StepsLeave g.layout new.image old.workspace new.workspace sweep.area result
   pub walk : sweep.walk.geometry ≡ g
   pub counted : new.reads + old.workspace.runs_seen ≤ old.reads + new.workspace.runs_seen
-  pub known : ForBytes (IsContents old.image.contents) (λ bytes.
+  pub known : ForContents old.image.contents (λ bytes.
       new.reads ≤ old.reads + indirect_in_steps g.layout (claims_of old.workspace) (owner bytes).steps)
-  pub most : ForBytes (IsContents old.image.contents) (λ bytes.
+  pub most : ForContents old.image.contents (λ bytes.
       new.workspace.runs_seen ≤ (after_steps g.layout (claims_of old.workspace) (owner bytes).steps).runs)
 
 -- an inode claims as an owner of fragments: its lines are reported, the claims are those after it, and
@@ -178,10 +178,10 @@ pub record ClaimsOwner {T : Type 0} (g : Geometry) (owner : List ℕ → Owner) 
     (result : Result T RunFault) : Type 0 where
   pub text : PhaseReports (IsContents old.image.contents)
       (λ bytes. of_lines (owner_lines g.layout (claims_of old.workspace) (owner bytes))) old.report new.report result
-  pub claims : OnOk result (ForBytes (IsContents old.image.contents) (λ bytes.
+  pub claims : OnOk result (ForContents old.image.contents (λ bytes.
       claims_of new.workspace ≡ after_owner g.layout (claims_of old.workspace) (owner bytes)))
   pub left : InodeLeaves g old new sweep result
-  pub known : ForBytes (IsContents old.image.contents)
+  pub known : ForContents old.image.contents
       (λ bytes. ReadsIndirect g.layout (claims_of old.workspace) (owner bytes) old.reads new.reads)
-  pub most : ForBytes (IsContents old.image.contents)
+  pub most : ForContents old.image.contents
       (λ bytes. new.workspace.runs_seen ≤ (after_owner g.layout (claims_of old.workspace) (owner bytes)).runs)

@@ -57,7 +57,7 @@ pub record Phase1Keeps {T E : Type 0} (old new : Workspace) (result : Result T E
 -- references are where they start. It has reported the first kept offer of each fragment with a DUP line,
 -- and looked at Runs up to the one that reports the last of them
 pub record IsLeftByPhase1b (v : Layout) (bytes : List ℕ) (w : Workspace) : Type 0 where
-  pub claims : HoldsBlockCheck v bytes w
+  pub block_check : HoldsBlockCheck v bytes w
   pub unsurveyed : w.surveyed ≡ false
   pub reported : has_unreported_dups w ≡ false
   pub count : w.runs_again ≡ rescan_runs v bytes

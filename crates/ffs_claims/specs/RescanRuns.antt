@@ -10,7 +10,7 @@ use Rattle.ffs_volume.specs.Blocks.Claims.{Claims, after_owner, all_claims, at_n
 use Rattle.ffs_volume.specs.Blocks.Owners.{Owner, owners_of}
 use Rattle.ffs_volume.specs.declared.{constants.TheConstants.ROOTINO, Inode.Inode, Layout.Layout}
 use Rattle.ffs_report.specs.{PhaseOutcome.PhaseReports, declared.fault.RunFault.RunFault}
-use Rattle.ffs_image.specs.Known.{ForBytes, IsContents}
+use Rattle.ffs_image.specs.{Device.ForContents, Known.IsContents}
 use Rattle.ffs_maps.specs.Bits.{bits_of}
 use Rattle.ffs_walk.specs.{KeptRuns.{indirect_in_run, kept_runs}, declared.kept_runs.KeptRun.KeptRun}
 use Rattle.ffs_workspace.specs.{Tables.{HoldsInode, HoldsPiece}, declared.workspace.Workspace.Workspace}
@@ -76,15 +76,15 @@ pub record Rewalks {T : Type 0} (v : Layout) (number : ℕ) (inode : List ℕ �
       of_lines (first_offer_lines (bits_of old.workspace.duplicates)
       (offers_of_runs number (noted_runs v old.workspace number (inode bytes) bytes))))
       old.report new.report result
-  pub rewalked : OnOk result (ForBytes (IsContents old.image.contents) (λ bytes.
+  pub rewalked : OnOk result (ForContents old.image.contents (λ bytes.
       Rewalked number (noted_runs v old.workspace number (inode bytes) bytes) old.workspace new.workspace))
-  pub part : OnErr result (ForBytes (IsContents old.image.contents) (λ bytes. ReportedInPart
+  pub part : OnErr result (ForContents old.image.contents (λ bytes. ReportedInPart
       (offers_of_runs number (noted_runs v old.workspace number (inode bytes) bytes)) old.workspace new.workspace))
-  pub runs : ForBytes (IsContents old.image.contents) (λ bytes. new.workspace.runs_again
+  pub runs : ForContents old.image.contents (λ bytes. new.workspace.runs_again
       ≤ old.workspace.runs_again + length (noted_runs v old.workspace number (inode bytes) bytes))
   pub left : RewalkLeaves v old.image new.image old.workspace new.workspace result
   pub counted : RunsPay old.reads new.reads old.workspace.runs_again new.workspace.runs_again
-  pub known : ForBytes (IsContents old.image.contents) (λ bytes.
+  pub known : ForContents old.image.contents (λ bytes.
       ReadsIndirectAgain (noted_runs v old.workspace number (inode bytes) bytes) old.reads new.reads)
 
 -- an inode is read again by its block of the inode table. Where the window held the inode, the table isn't
@@ -93,7 +93,7 @@ pub record RereadsByBlock {T : Type 0} (v : Layout) (number : ℕ) (old new : Ph
     : Type 0 where
   pub again : HoldsInode old.workspace.windows.table number →
       new.workspace.windows.table ≡ old.workspace.windows.table
-  pub known : HoldsInode old.workspace.windows.table number → ForBytes (IsContents old.image.contents) (λ bytes.
+  pub known : HoldsInode old.workspace.windows.table number → ForContents old.image.contents (λ bytes.
       ReadsIndirectAgain (noted_runs v old.workspace number (inode_of v bytes number) bytes) old.reads new.reads)
   pub block : (HoldsInode old.workspace.windows.table number → ⊥)
       → OnOk result (HoldsPiece v v.inopb number new.workspace.windows.table)

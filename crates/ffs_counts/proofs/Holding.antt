@@ -72,7 +72,7 @@ pub inode_reference_lines_are : (v : Layout) (b : List ℕ) (w : Workspace) (i :
     (label_of (class_of_kind (slice_index w.kinds.items i))) (attributes_of i inode) inode.nlink r
 unfolding inode_reference_lines attributes volume_of volume_with
 inode_reference_lines_are v b w i inode dead r low f used is e refs =
-    let h = f.claims in
+    let h = f.block_check in
     let suspect : (bool_at w.marked.items i || is_empty_dir_kind (slice_index w.kinds.items i))
     ≡ (marked_at v b i || is_empty_dir_kind (kind_at v b i)) = grind arith in
     let is_dead_is : dead ≡ is_dead (volume_of v b) i = grind (arith, suspect_is) in
@@ -117,7 +117,7 @@ met_lines v b w i low f used met =
     let links = links_met inode.nlink (references (volume_of v b) i) in
     let lines = inode_reference_lines_are v b w i inode (is_dead_by w i) (references (volume_of v b) i) low f used refl
     refl in
-    let whole = some_lines v b w i f.claims used in
+    let whole = some_lines v b w i f.block_check used in
     grind (arith, eqb-true)
 
 -- a number whose element is in a part of a list of which each is `LINKS_MET`
@@ -143,7 +143,7 @@ silent_by : (v : Layout) (b : List ℕ) (w : Workspace) (i : ℕ) (used : Bool) 
     is_allocated (class_of_kind (slice_index w.kinds.items i)) ≡ used →
     (is_allocated (class_of_kind (slice_index w.kinds.items i)) ≡ true → is_right_by w i ≡ true) →
     reference_lines_at (volume_of v b) i ≡ []
-silent_by v b w i false low f e right = no_lines v b w i f.claims e
+silent_by v b w i false low f e right = no_lines v b w i f.block_check e
 silent_by v b w i true low f e right = met_lines v b w i low f e (right e)
 
 -- the inodes that are passed over have no lines
@@ -180,6 +180,6 @@ unmet_line v b w i low f used unmet =
     let r = references (volume_of v b) i in
     let counted = references_are v b w i low f used in
     let refs : r ≡ slice_index w.references.items i - links_start (inode_of v b i).nlink = omega (arith, counted) in
-    ap length (sym (some_lines v b w i f.claims used)
+    ap length (sym (some_lines v b w i f.block_check used)
     ∙ inode_reference_lines_are v b w i (inode_of v b i) (is_dead_by w i) r low f used refl refl refs)
     ∙ unmet_reported w i _ _ _ _ _ _ r unmet refl refl refs (links_fit v b i)

@@ -1,14 +1,15 @@
 -- A target found in a workspace that holds what phase 1 leaves: what its faults, and its lines, say of the command.
 use Rattle.std.proofs.Common.{◌≡◌, ◌+◌, ◌≤◌, ℕ, Option, Err, refl}
-use Rattle.ffs_image.specs.Device.{Device}
+use Rattle.ffs_image.specs.Device.{Device, ForContents}
 use Rattle.ffs_memory.specs.Account.{Account}
 use Rattle.ffs_volume.specs.{Disk.Superblock.Superblock}
-use Rattle.ffs_image.specs.Known.{ForBytes, IsContents}
+use Rattle.ffs_image.specs.Known.{ForBytes}
 use Rattle.ffs_report.specs.declared.fault.RunFault.{RunFault, TheVariants.{Read, Out}}
 use Rattle.ffs_workspace.specs.{declared.workspace.Workspace.Workspace, Holds.HoldsPhase1}
 use Rattle.ffs_finding.specs.declared.find.FindFault.{FindFault, TheVariants.{Refused, Failed, NoMemory}}
 use Rattle.ffs_finding.specs.{declared.request.Target.Target, Claims.{TakesClaims, WithBlocks}, Fields.WithSuper, Outcome.Finds}
-use Rattle.ffs_finding.{specs.Headline.{FindsTarget, IsSectorFor, target_lines, target_reads}, proofs.Printing.{printed_knowing, reads_first}}
+use Rattle.ffs_finding.{specs.Headline.{FindsTarget, IsSectorFor, target_lines, target_reads}}
+use Rattle.ffs_finding.proofs.Printing.{first_knowing, reads_first}
 use Rattle.ffs_check.specs.Moment.{Moment}
 
 module _ (target : Target) (sector : Option ℕ) (s : Superblock) (m : Moment) where
@@ -28,7 +29,7 @@ module _ (target : Target) (sector : Option ℕ) (s : Superblock) (m : Moment) w
       record { answer = (p.0, refl); grounds = tt; reads = bound }
 
   -- what phase 1 leaves says what belongs to whom
-  pub claimed_knows : (w : Workspace) → ForBytes (IsContents m.image.contents) (λ b. HoldsPhase1 s.layout b w) →
+  pub claimed_knows : (w : Workspace) → ForContents m.image.contents (λ b. HoldsPhase1 s.layout b w) →
       ForBytes (WithSuper m.image sector s) (λ b. WithBlocks s.layout m.image w b
       × (target_lines target sector b s ≡ target_lines target sector b s))
   claimed_knows w holds b k =
@@ -37,28 +38,17 @@ module _ (target : Target) (sector : Option ℕ) (s : Superblock) (m : Moment) w
   -- a fault came after phase 1
   pub claimed_fails : {T : Type 0} (w : Workspace) (between : ℕ) (m' : Moment) (fault : RunFault) →
       ((at : ℕ) → IsSectorFor target sector s at) → m'.reads ≤ m.reads + target_reads target s.layout →
-      ForBytes (IsContents m.image.contents) (λ b. HoldsPhase1 s.layout b w) →
+      ForContents m.image.contents (λ b. HoldsPhase1 s.layout b w) →
       Finds {T = T} (WithBlocks s.layout m.image w) (λ b. target_lines target sector b s)
       (record { image = m.image; reads = between; out = m.out }) m' (Err fault) →
       FindsTarget target sector s m m' (Err (Failed fault))
   claimed_fails w between m' (Read fault) anywhere bound holds p = record {
-    answer = record {
-      image = p.image;
-      text = record { rest = p.text.rest; printed = printed_knowing (claimed_knows w holds) p.text.printed };
-    };
+    answer = record { image = p.image; text = first_knowing (claimed_knows w holds) p.text };
     grounds = anywhere fault.sector;
     reads = bound;
   }
   claimed_fails w between m' (Out fault) anywhere bound holds p = record {
-    answer = record {
-      image = p.image;
-      text = record {
-        lines = p.text.lines;
-        rest = p.text.rest;
-        right = λ b k. p.text.right b (claimed_knows w holds b k).0;
-        broke_off = p.text.broke_off;
-      };
-    };
+    answer = record { image = p.image; text = first_knowing (claimed_knows w holds) p.text };
     grounds = tt;
     reads = bound;
   }

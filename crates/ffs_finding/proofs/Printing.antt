@@ -5,7 +5,7 @@ use Rattle.ffs_report.specs.{Sink.{Sink, Took, BrokeOff}, declared.fault.RunFaul
 use Rattle.ffs_image.specs.Known.{ForBytes}
 use Rattle.ffs_report.{specs.declared.fault.RunFault.TheVariants.{Read, Out}, proofs.Sinks.{took_nil, took_then}}
 use Rattle.ffs_report.proofs.Sinks.{broke_off_after}
-use Rattle.ffs_finding.specs.Outcome.{PrintedTo, PrintedSome, StoppedIn, PrintsLines, any_line}
+use Rattle.ffs_finding.specs.Outcome.{FirstLines, PrintedTo, PrintsLines, any_line}
 
 -- the bytes of lines and of others after them
 pub concat-append : (xs ys : List (List ℕ)) → concat (xs ++ ys) ≡ concat xs ++ concat ys
@@ -26,12 +26,12 @@ prints knows rest rest' all ms a b c p e q = record {
 
 pub stops : (knows : List ℕ → Type 0) (rest rest' all : List ℕ → List (List ℕ)) (ms : List (List ℕ)) (a b c : Sink) →
     PrintedTo knows rest all a b → ForBytes knows (λ bytes. rest bytes ≡ ms ++ rest' bytes) →
-    BrokeOff b c (concat ms) → StoppedIn knows all a c
+    BrokeOff b c (concat ms) → FirstLines knows all (BrokeOff a c)
 stops knows rest rest' all ms a b c p e q = record {
   lines = p.lines ++ ms;
   rest = rest';
   right = λ bytes k. grind (arith, append_assoc, e bytes k, p.right bytes k);
-  broke_off = rw (concat-append p.lines ms) (broke_off_after a b c (concat p.lines) (concat ms) p.took q);
+  told = rw (concat-append p.lines ms) (broke_off_after a b c (concat p.lines) (concat ms) p.took q);
 }
 
 -- all was printed at once
@@ -44,17 +44,18 @@ pub prints_none : {knows : List ℕ → Type 0} {all : List ℕ → List (List �
 prints_none {knows} {all} {a} e = prints_all e (took_nil a)
 
 pub stops_all : {knows : List ℕ → Type 0} {all : List ℕ → List (List ℕ)} {ms : List (List ℕ)} {a b : Sink} →
-    ForBytes knows (λ bytes. all bytes ≡ ms) → BrokeOff a b (concat ms) → StoppedIn knows all a b
+    ForBytes knows (λ bytes. all bytes ≡ ms) → BrokeOff a b (concat ms) → FirstLines knows all (BrokeOff a b)
 stops_all {knows} {all} {ms} e p = record {
   lines = ms;
   rest = λ bytes. [];
   right = λ bytes k. append-nil ms ∙ sym (e bytes k);
-  broke_off = p;
+  told = p;
 }
 
 -- a read failed before anything was printed
-pub reads_first : {knows : List ℕ → Type 0} {all : List ℕ → List (List ℕ)} {a : Sink} → PrintedSome knows all a a
-reads_first {knows} {all} {a} = record { rest = all; printed = begins knows all a }
+pub reads_first : {knows : List ℕ → Type 0} {all : List ℕ → List (List ℕ)} {a : Sink} →
+    FirstLines knows all (Took a a)
+reads_first {knows} {all} {a} = record { lines = []; rest = all; right = λ bytes k. refl; told = took_nil a }
 
 -- one line was printed, which is all
 pub one : {a b : Sink} {text : List ℕ} → Took a b text → Took a b (concat (text ∷ []))
@@ -87,20 +88,16 @@ pub part_fault : (T E : Type 0) (knows : List ℕ → Type 0) (rest this rest' a
     ForBytes knows (λ bytes. rest bytes ≡ this bytes ++ rest' bytes) →
     PrintsLines {T = T} knows this b c (Err fault) → PrintsLines {T = E} knows all a c (Err fault)
 part_fault T E knows rest this rest' all a b c (Read fault) p e q = record {
+  lines = p.lines ++ q.lines;
   rest = λ bytes. q.rest bytes ++ rest' bytes;
-  printed = record {
-    lines = p.lines ++ q.printed.lines;
-    right = part_right knows rest this rest' all q.rest p.lines q.printed.lines p.right e q.printed.right;
-    took = rw (concat-append p.lines q.printed.lines)
-        (took_then a b c (concat p.lines) (concat q.printed.lines) p.took q.printed.took);
-  };
+  right = part_right knows rest this rest' all q.rest p.lines q.lines p.right e q.right;
+  told = rw (concat-append p.lines q.lines) (took_then a b c (concat p.lines) (concat q.lines) p.took q.told);
 }
 part_fault T E knows rest this rest' all a b c (Out fault) p e q = record {
   lines = p.lines ++ q.lines;
   rest = λ bytes. q.rest bytes ++ rest' bytes;
   right = part_right knows rest this rest' all q.rest p.lines q.lines p.right e q.right;
-  broke_off = rw (concat-append p.lines q.lines)
-      (broke_off_after a b c (concat p.lines) (concat q.lines) p.took q.broke_off);
+  told = rw (concat-append p.lines q.lines) (broke_off_after a b c (concat p.lines) (concat q.lines) p.took q.told);
 }
 
 -- ---- whether there was a line
@@ -145,6 +142,15 @@ printed_knowing more p = record {
   lines = p.lines;
   right = λ bytes k. p.right bytes (more bytes k).0 ∙ (more bytes k).1;
   took = p.took;
+}
+
+abbrev pub first_knowing : {knows knows' : List ℕ → Type 0} {all all' : List ℕ → List (List ℕ)} {P : List ℕ → Type 0} →
+    ForBytes knows' (λ bytes. knows bytes × (all bytes ≡ all' bytes)) → FirstLines knows all P → FirstLines knows' all' P
+first_knowing more p = record {
+  lines = p.lines;
+  rest = p.rest;
+  right = λ bytes k. p.right bytes (more bytes k).0 ∙ (more bytes k).1;
+  told = p.told;
 }
 
 -- where more is known

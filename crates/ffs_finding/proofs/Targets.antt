@@ -13,7 +13,7 @@ use Rattle.ffs_finding.specs.declared.request.Target.{Target, TheVariants.{Inode
 use Rattle.ffs_finding.specs.{declared.request.Command.TheVariants.InVolume}
 use Rattle.ffs_finding.specs.Headline.{AnswersCommand, AnswersWith, FindsTarget, GroundsOf, IsAcceptedIn, IsGranted}
 use Rattle.ffs_finding.specs.Headline.{IsReadFor, IsRefusedBy, IsSectorFor, TakesForTarget, TakesMemory}
-use Rattle.ffs_finding.{specs.Headline.{PrintedAll, lines_by, target_lines}, proofs.Printing.printed_knowing}
+use Rattle.ffs_finding.{specs.Headline.{PrintedAll, lines_by, target_lines}, proofs.Printing.{first_knowing, printed_knowing}}
 
 -- memory was refused, where the answer says so
 refused : (target : Target) (v : Layout) (held held' : Account) → TakesForTarget target v held held' (Err NoMemory) →
@@ -37,16 +37,9 @@ knowing_more : (are_defects : Bool) {knows knows' : List ℕ → Type 0} {lines 
 knowing_more are_defects d reads reads' a m (Ok defect) more p = (p.0, all_knowing more p.1)
 knowing_more are_defects d reads reads' a m (Err (Refused fault)) more p = p
 knowing_more are_defects d reads reads' a m (Err (Failed (Read fault))) more p =
-    record { image = p.image; text = record { rest = p.text.rest; printed = printed_knowing more p.text.printed } }
-knowing_more are_defects d reads reads' a m (Err (Failed (Out fault))) more p = record {
-  image = p.image;
-  text = record {
-    lines = p.text.lines;
-    rest = p.text.rest;
-    right = λ b k. p.text.right b (more b k).0 ∙ (more b k).1;
-    broke_off = p.text.broke_off;
-  };
-}
+    record { image = p.image; text = first_knowing more p.text }
+knowing_more are_defects d reads reads' a m (Err (Failed (Out fault))) more p =
+    record { image = p.image; text = first_knowing more p.text }
 knowing_more are_defects d reads reads' a m (Err NoMemory) more p = p
 
 module _ (target : Target) (sector : Option ℕ) (s : Superblock) (d : Device)
@@ -82,7 +75,7 @@ takes (Owner fragment) sector s d held held' r accepted sound inside p = grind a
 pub answered : (target : Target) (sector : Option ℕ) (s : Superblock) (d : Device) (before between : ℕ) (a : Sink)
     (m : Moment) (held held' : Account) (r : Result Bool FindFault) →
     ForContents d.contents (λ b. outcome b sector ≡ Ok s) → IsAcceptedLayout s.layout →
-    s.layout.size * s.layout.fsize ≤ d.size → between ≤ before + 2 →
+    s.layout.size * s.layout.fsize ≤ d.size → between ≤ before + super_reads sector →
     FindsTarget target sector s (record { image = d; reads = between; out = a }) m r →
     TakesForTarget target s.layout held held' r →
     AnswersCommand (InVolume target sector) (record { image = d; reads = before; out = a }) m held held' r

@@ -6,7 +6,7 @@ use Rattle.ffs_volume.specs.{Blocks.{Inodes.{inode_of, inodes_of}, Steps.steps_o
 use Rattle.ffs_volume.specs.{Encodings.ReplayCounts.replayed_runs, Report.Whole.run_count, Groups.Records.group_block}
 use Rattle.ffs_volume.specs.Find.Owner.{group_of_fragment, keeper_lines, keeper_text, map_text}
 use Rattle.ffs_volume.specs.Encodings.Notes.{cut_in}
-use Rattle.ffs_image.specs.Device.{Device}
+use Rattle.ffs_image.specs.Device.{Device, ForContents}
 use Rattle.ffs_report.specs.declared.fault.RunFault.{RunFault}
 use Rattle.ffs_image.specs.Known.{ForBytes, IsContents}
 use Rattle.ffs_walk.specs.{KeptRuns.{indirect_in_run, kept_runs}, Windows.WindowHolds, declared.kept_runs.KeptRun.KeptRun}
@@ -64,7 +64,7 @@ sought_lines v s steps = lines_of_runs s.fragment s.number 0 (kept_runs v s.cut 
 pub record FindsKeptOffers {T : Type 0} (v : Layout) (s : Sought) (inode : Inode) (old new : Moment)
     (result : Result T RunFault) : Type 0 where
   pub found : Finds (IsContents old.image.contents) (λ b. sought_lines v s (steps_of v inode b)) old new result
-  pub reads : ForBytes (IsContents old.image.contents)
+  pub reads : ForContents old.image.contents
       (λ b. new.reads ≤ old.reads + replayed_runs v s.cut fresh_replay (steps_of v inode b))
 
 -- the lines of the inode x can be found
@@ -81,7 +81,7 @@ pub record FindsKeeper {T : Type 0} (v : Layout) (s : Sought) (old new : Moment)
     Type 0 where
   pub found : Finds (IsContents old.image.contents) (λ b. sought_lines v s (steps_of v (inode_of v b s.number) b))
       old new result
-  pub reads : ForBytes (IsContents old.image.contents) (λ b. new.reads ≤ old.reads + 1
+  pub reads : ForContents old.image.contents (λ b. new.reads ≤ old.reads + 1
       + replayed_runs v s.cut fresh_replay (steps_of v (inode_of v b s.number) b))
 
 -- the lines of all inodes were printed, and the image was read at most once for each inode

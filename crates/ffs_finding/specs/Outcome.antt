@@ -12,24 +12,21 @@ pub record PrintedTo (knows : List ℕ → Type 0) (rest all : List ℕ → List
   pub right : ForBytes knows (λ bytes. lines ++ rest bytes ≡ all bytes)
   pub took : Took old new (concat lines)
 
--- whole lines were printed, the first ones of `all`, perhaps all of them
-pub record PrintedSome (knows : List ℕ → Type 0) (all : List ℕ → List (List ℕ)) (old new : Sink) : Type 0 where
-  pub rest : List ℕ → List (List ℕ)
-  pub printed : PrintedTo knows rest all old new
-
--- the output failed among the lines
-pub record StoppedIn (knows : List ℕ → Type 0) (all : List ℕ → List (List ℕ)) (old new : Sink) : Type 0 where
-  pub lines : List (List ℕ)
-  pub rest : List ℕ → List (List ℕ)
-  pub right : ForBytes knows (λ bytes. lines ++ rest bytes ≡ all bytes)
-  pub broke_off : BrokeOff old new (concat lines)
+-- the bytes of the first ones of these lines, perhaps of all of them, were taken, or the output failed in them: as
+-- `IsTold` has it
+pub record FirstLines (knows : List ℕ → Type 0) (all : List ℕ → List (List ℕ)) (IsTold : List ℕ → Type 0) : Type 0
+  where
+    pub lines : List (List ℕ)
+    pub rest : List ℕ → List (List ℕ)
+    pub right : ForBytes knows (λ bytes. lines ++ rest bytes ≡ all bytes)
+    pub told : IsTold (concat lines)
 
 -- all lines at Ok, whole ones at a read's fault, a prefix of their bytes at a fault of the output
 abbrev pub PrintsLines : {T : Type 0} → (List ℕ → Type 0) → (List ℕ → List (List ℕ)) → (old new : Sink) →
     Result T RunFault → Type 0
 PrintsLines knows all old new (Ok x) = PrintedTo knows (λ bytes. []) all old new
-PrintsLines knows all old new (Err (Read fault)) = PrintedSome knows all old new
-PrintsLines knows all old new (Err (Out fault)) = StoppedIn knows all old new
+PrintsLines knows all old new (Err (Read fault)) = FirstLines knows all (Took old new)
+PrintsLines knows all old new (Err (Out fault)) = FirstLines knows all (BrokeOff old new)
 
 -- there is a line that isn't empty. No command has an empty line; the definition needs no proof of that
 abbrev pub any_line : List (List ℕ) → Bool

@@ -3,6 +3,7 @@ ghost use Rattle.std.specs.Prelude.{◌≡◌, ◌+◌, ◌*◌, ◌≤◌, Ok, 
 ghost use Rattle.ffs_volume.specs.Report.Reads.{scan_reads};
 ghost use Rattle.ffs_finding.specs.Claims.{TakesClaims, discarding};
 ghost use Rattle.ffs_volume.specs.Disk.Areas.{FitsIn};
+ghost use Rattle.ffs_workspace.specs.Ready.{workspace_requests};
 
 use crate::find::FindFault;
 use ffs_claims::phase1;
@@ -45,6 +46,7 @@ pub(crate) fn claimed_workspace<M: Memory, I: Image>(
     ensures takes { TakesClaims geometry.now.layout (I.device image.old) (I.device image.new)
         (M.account memory.old) (M.account memory.new) result }
     ensures reads { I.reads image.new ≤ I.reads image.old + scan_reads geometry.now.layout }
+    ensures requests { M.requests memory.new ≤ M.requests memory.old + workspace_requests }
 {
     let mut workspace = Workspace::in_memory(memory, geometry)?;
     let mut dropped = Discarding;

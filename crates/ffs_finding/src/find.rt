@@ -5,6 +5,8 @@ ghost use Rattle.ffs_report.specs.{Lines.message_of, Sink.Prints};
 ghost use Rattle.ffs_layout.specs.Super.{superblock_in};
 ghost use Rattle.ffs_check.specs.Moment.{moment};
 ghost use Rattle.ffs_finding.specs.Headline.{AnswersCommand, EndsBy, FindsCommand, FindsTarget, TakesForTarget};
+ghost use Rattle.ffs_finding.specs.Headline.{command_requests, target_requests};
+ghost use Rattle.ffs_workspace.specs.Ready.{workspace_requests};
 ghost use Rattle.ffs_finding.specs.declared.find.FindFault.TheVariants.{Failed, NoMemory};
 ghost use Rattle.ffs_finding.specs.declared.request.Target.TheVariants.{Lost, Owner};
 ghost use Rattle.ffs_finding.specs.declared.request.Command.TheVariants.{Copies, InVolume};
@@ -65,9 +67,10 @@ pub fn find_in<M: Memory, I: Image, W: Output>(
     command: Command,
     out: &mut W,
 ) -> u8
-    ensures { FindsCommand command (moment I.Image W.Output image.old out.old)
+    ensures finds { FindsCommand command (moment I.Image W.Output image.old out.old)
         (moment I.Image W.Output image.new out.new) (M.account memory.old) (M.account memory.new)
         result }
+    ensures requests { M.requests memory.new ≤ M.requests memory.old + command_requests command }
 {
     let answer = find(memory, image, command, out);
     end(answer, out)
@@ -84,9 +87,10 @@ fn find<M: Memory, I: Image, W: Output>(
     command: Command,
     out: &mut W,
 ) -> Result<bool, FindFault>
-    ensures { AnswersCommand command (moment I.Image W.Output image.old out.old)
+    ensures finds { AnswersCommand command (moment I.Image W.Output image.old out.old)
         (moment I.Image W.Output image.new out.new) (M.account memory.old) (M.account memory.new)
         result }
+    ensures requests { M.requests memory.new ≤ M.requests memory.old + command_requests command }
 {
     match command {
         Command::Copies => find_copies_by_window(memory, image, out),
@@ -100,9 +104,10 @@ fn find_copies_by_window<M: Memory, I: Image, W: Output>(
     image: &mut I,
     out: &mut W,
 ) -> Result<bool, FindFault>
-    ensures { AnswersCommand Copies (moment I.Image W.Output image.old out.old)
+    ensures finds { AnswersCommand Copies (moment I.Image W.Output image.old out.old)
         (moment I.Image W.Output image.new out.new) (M.account memory.old) (M.account memory.new)
         result }
+    ensures requests { M.requests memory.new ≤ M.requests memory.old + 1 }
 {
     let mut window = Window::over(memory.bytes(WINDOW_BYTES as usize)?);
     find_copies(image, &mut window, out)?;
@@ -118,9 +123,10 @@ fn find_in_volume<M: Memory, I: Image, W: Output>(
     sector: Option<u32>,
     out: &mut W,
 ) -> Result<bool, FindFault>
-    ensures { AnswersCommand (InVolume target sector) (moment I.Image W.Output image.old out.old)
-        (moment I.Image W.Output image.new out.new) (M.account memory.old) (M.account memory.new)
-        result }
+    ensures finds { AnswersCommand (InVolume target sector)
+        (moment I.Image W.Output image.old out.old) (moment I.Image W.Output image.new out.new)
+        (M.account memory.old) (M.account memory.new) result }
+    ensures requests { M.requests memory.new ≤ M.requests memory.old + target_requests target }
 {
     match read_super(image, sector) {
         Ok(superblock) => find_in_accepted(memory, image, target, sector, &superblock, out),
@@ -147,6 +153,7 @@ fn find_in_accepted<M: Memory, I: Image, W: Output>(
         result }
     ensures memory { TakesForTarget target superblock.now.geometry.layout (M.account memory.old)
         (M.account memory.new) result }
+    ensures requests { M.requests memory.new ≤ M.requests memory.old + target_requests target }
 {
     match target {
         Target::Inode { number } => {
@@ -179,6 +186,7 @@ fn claim_and_find_lost<M: Memory, I: Image, W: Output>(
         result }
     ensures memory { TakesForTarget Lost superblock.now.geometry.layout (M.account memory.old)
         (M.account memory.new) result }
+    ensures requests { M.requests memory.new ≤ M.requests memory.old + workspace_requests }
 {
     let geometry = &superblock.geometry;
     let mut workspace = claimed_workspace(memory, geometry, image)?;
@@ -203,6 +211,7 @@ fn claim_and_find_owner<M: Memory, I: Image, W: Output>(
         (moment I.Image W.Output image.new out.new) result }
     ensures memory { TakesForTarget (Owner fragment) superblock.now.geometry.layout
         (M.account memory.old) (M.account memory.new) result }
+    ensures requests { M.requests memory.new ≤ M.requests memory.old + workspace_requests }
 {
     let geometry = &superblock.geometry;
     let mut workspace = claimed_workspace(memory, geometry, image)?;

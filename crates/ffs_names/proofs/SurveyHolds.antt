@@ -33,9 +33,9 @@ unfolding volume_of volume_with
 holds_tree v b w starts counts flags marks parents f m u s = grind arith
 
 -- the references of the graph are the volume's
-references_is : (v : Volume) (x : ℕ) → references_to (graph_of v) x ≡ references v x
+references_is : (vol : Volume) (x : ℕ) → references_to (graph_of vol) x ≡ references vol x
 unfolding counted_below references_below
-references_is v x = grind arith
+references_is vol x = grind arith
 
 -- no start is past the greatest one
 start_low : (v : Layout) (b : List ℕ) (x : ℕ) → start_at v b x ≤ most_start

@@ -40,7 +40,7 @@ pub record IsSurveyed (v : Layout) (b : List ℕ) (w : Workspace) : Type 0 where
   pub survey : HoldsSurvey v b w
   pub references : HoldsReferences v b w
   pub surveyed : w.surveyed ≡ true
-  pub claims : HoldsBlockCheck v b w
+  pub block_check : HoldsBlockCheck v b w
   pub calm : FlagsOnlyCalm v b w
 
 -- a survey reads all directories: where no read failed, what it finds is held, and each calm directory has a

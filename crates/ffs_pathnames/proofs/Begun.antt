@@ -66,41 +66,41 @@ pub begun_is : (v : Layout) (b : List ℕ) (d : ℕ) (old new more : Workspace) 
 begun_is v b d old new more f start found q m = grind arith
 
 -- a directory among the inodes
-pub directory_is : (v : Volume) (d : ℕ) → 2 ≤ d → is_dir v d ≡ true → IsDirectory v d
-directory_is v d two h = grind (arith, and_parts, ltb-true)
+pub directory_is : (vol : Volume) (d : ℕ) → 2 ≤ d → is_dir vol d ≡ true → IsDirectory vol d
+directory_is vol d two h = grind (arith, and_parts, ltb-true)
 
 -- its lines: first those before its entries, then those of its entries
-pub lines_parts : (v : Volume) (d : ℕ) (ms : List TreeMessage) → lines_of_entries v d 0 (roled_entries v d) ≡ ms →
-    map of_tree (sized_dir_lines v d) ≡ map of_tree (dir_header_lines v d) ++ map of_tree ms
+pub lines_parts : (vol : Volume) (d : ℕ) (ms : List TreeMessage) → lines_of_entries vol d 0 (roled_entries vol d) ≡ ms →
+    map of_tree (sized_dir_lines vol d) ≡ map of_tree (dir_header_lines vol d) ++ map of_tree ms
 unfolding sized_dir_lines
-lines_parts v d ms e = rw e (map-append of_tree (dir_header_lines v d) ms)
+lines_parts vol d ms e = rw e (map-append of_tree (dir_header_lines vol d) ms)
 
-pub starts_within : (v : Volume) (d : ℕ) → length (dir_header_lines v d) ≤ length (sized_dir_lines v d)
-starts_within v d =
-    let long = lines_long (sized_dir_lines v d) (dir_header_lines v d) _ (lines_parts v d _ refl) in omega (arith, long)
+pub starts_within : (vol : Volume) (d : ℕ) → length (dir_header_lines vol d) ≤ length (sized_dir_lines vol d)
+starts_within vol d =
+    let long = lines_long (sized_dir_lines vol d) (dir_header_lines vol d) _ (lines_parts vol d _ refl) in omega (arith, long)
 
-pub quiet_parts : (v : Volume) (d : ℕ) (m : PassedNames) → IsDirectory v d → RemembersBefore v d m →
-    are_quiet v d m.flags m.stamps (roled_entries v d) ≡ true →
-    map of_tree (dir_header_lines v d) ≡ map of_tree (sized_dir_lines v d)
+pub quiet_parts : (vol : Volume) (d : ℕ) (m : PassedNames) → IsDirectory vol d → RemembersBefore vol d m →
+    are_quiet vol d m.flags m.stamps (roled_entries vol d) ≡ true →
+    map of_tree (dir_header_lines vol d) ≡ map of_tree (sized_dir_lines vol d)
 unfolding size_of
-quiet_parts v d m dir r h =
-    let none = quiet_silent [] (roled_entries v d) m.flags m.stamps dir refl r.stamps_length r.named (unstamped v d m r)
+quiet_parts vol d m dir r h =
+    let none = quiet_silent [] (roled_entries vol d) m.flags m.stamps dir refl r.stamps_length r.named (unstamped vol d m r)
     h in
-    sym (lines_parts v d [] none ∙ append-nil (map of_tree (dir_header_lines v d)))
+    sym (lines_parts vol d [] none ∙ append-nil (map of_tree (dir_header_lines vol d)))
 
-pub reported_parts : (v : Volume) (d : ℕ) (m m' : PassedNames) → IsDirectory v d → RemembersBefore v d m →
-    m' ≡ looked v d m →
-    map of_tree (sized_dir_lines v d) ≡ map of_tree (dir_header_lines v d)
-    ++ map of_tree (entries_reported v d m' (roled_entries v d))
+pub reported_parts : (vol : Volume) (d : ℕ) (m m' : PassedNames) → IsDirectory vol d → RemembersBefore vol d m →
+    m' ≡ looked vol d m →
+    map of_tree (sized_dir_lines vol d) ≡ map of_tree (dir_header_lines vol d)
+    ++ map of_tree (entries_reported vol d m' (roled_entries vol d))
 unfolding size_of
-reported_parts v d m m' dir r e = rw e (lines_parts v d _
-    (right_reported [] (roled_entries v d) (looked v d m) dir refl (looked_right v d m r)))
+reported_parts vol d m m' dir r e = rw e (lines_parts vol d _
+    (right_reported [] (roled_entries vol d) (looked vol d m) dir refl (looked_right vol d m r)))
 
 -- the names that were passed after it
-pub quiet_after : (v : Volume) (d : ℕ) (m m' : PassedNames) → RemembersBefore v d m →
-    are_quiet v d m.flags m.stamps (roled_entries v d) ≡ true → m' ≡ looked v d m → RemembersBefore v (suc d) m'
-quiet_after v d m m' r h e = rw e (quiet_next v d m r h)
+pub quiet_after : (vol : Volume) (d : ℕ) (m m' : PassedNames) → RemembersBefore vol d m →
+    are_quiet vol d m.flags m.stamps (roled_entries vol d) ≡ true → m' ≡ looked vol d m → RemembersBefore vol (suc d) m'
+quiet_after vol d m m' r h e = rw e (quiet_next vol d m r h)
 
-pub reported_after : (v : Volume) (d : ℕ) (m m' m'' : PassedNames) → IsDirectory v d → RemembersBefore v d m →
-    m' ≡ looked v d m → after_entries v d m' (roled_entries v d) ≡ m'' → RemembersBefore v (suc d) m''
-reported_after v d m m' m'' dir r e q = rw (← q, e) (reported_next v d m dir r)
+pub reported_after : (vol : Volume) (d : ℕ) (m m' m'' : PassedNames) → IsDirectory vol d → RemembersBefore vol d m →
+    m' ≡ looked vol d m → after_entries vol d m' (roled_entries vol d) ≡ m'' → RemembersBefore vol (suc d) m''
+reported_after vol d m m' m'' dir r e q = rw (← q, e) (reported_next vol d m dir r)

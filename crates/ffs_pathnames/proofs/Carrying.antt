@@ -57,7 +57,7 @@ pub before_next : {v : Layout} {contents contents' : Option (List ℕ)} {old new
     KnowsBefore v contents old d b → KnowsBefore v contents' new d' b
 before_next {v = v} {b = b} e s r k = record {
   gives_bytes = e ∙ k.gives_bytes;
-  claims = claims_left v b _ _ s k.claims;
+  block_check = claims_left v b _ _ s k.block_check;
   survey = survey_left v b _ _ s k.survey;
   passed = r;
 }
@@ -84,13 +84,13 @@ module _ {v : Layout} {contents : Option (List ℕ)} {w : Workspace} {d : ℕ} {
 
   pub lines_looked : (slice_index w.kinds.items d == 4) ≡ true → KnowsBefore v contents w d b →
       directory_lines (volume_of v b) d ≡ sized_dir_lines (volume_of v b) d
-  lines_looked e k = rw (looked_is v b d, ← k.claims.kinds d, e) refl
+  lines_looked e k = rw (looked_is v b d, ← k.block_check.kinds d, e) refl
 
   -- a directory that isn't looked at is calm
   calm_shown : needs_check w d ≡ false → (slice_index w.kinds.items d == 4) ≡ true → KnowsBefore v contents w d b →
       IsSilentDirectory (volume_of v b) d
   calm_shown h e k =
-      let suspect = suspect_shown v b w d k.claims in
+      let suspect = suspect_shown v b w d k.block_check in
       let calm = k.passed.calm d in
       grind (arith, nat_tests)
 
@@ -100,10 +100,10 @@ module _ {v : Layout} {contents : Option (List ℕ)} {w : Workspace} {d : ℕ} {
   lines_skipped two h k = elim (cases_Bool (slice_index w.kinds.items d == 4)) [
     | inl e ↦
         let silent = calm_shown h e k in
-        let dir = directory_is (volume_of v b) d two (looked_dir v b d (rw (← k.claims.kinds d) e)) in
+        let dir = directory_is (volume_of v b) d two (looked_dir v b d (rw (← k.block_check.kinds d) e)) in
         ap (map of_tree) (lines_looked e k) ∙ sym (quiet_parts (volume_of v b) d (passed_of w) dir k.passed
         (silent_quiet (volume_of v b) d (passed_of w) silent k.passed)) ∙ ap (map of_tree) silent.starts
-    | inr e ↦ rw (looked_is v b d, ← k.claims.kinds d, e) refl
+    | inr e ↦ rw (looked_is v b d, ← k.block_check.kinds d, e) refl
   ]
 
   pub before_skipped : IsAcceptedLayout v → needs_check w d ≡ false → KnowsBefore v contents w d b →
@@ -111,16 +111,16 @@ module _ {v : Layout} {contents : Option (List ℕ)} {w : Workspace} {d : ℕ} {
   before_skipped g h k = before_next refl (leaves_all w) (elim (cases_Bool (slice_index w.kinds.items d == 4)) [
     | inl e ↦ silent_next (volume_of v b) d (passed_of w) (calm_shown h e k) k.passed
     | inr e ↦ other_next (volume_of v b) d (passed_of w)
-        (λ x q n. names_none v b d g (rw (← k.claims.kinds d) e) x) k.passed
+        (λ x q n. names_none v b d g (rw (← k.block_check.kinds d) e) x) k.passed
   ]) k
 
 -- what is reported of the root
-root_by : (v : Volume) (c : Class) (k : ℕ) (m : Bool) → is_directory c ≡ is_dir_kind k →
-    is_allocated c ≡ is_allocated_kind k → is_suspect v 2 ≡ (m || is_empty_dir_kind k) →
-    root_reported k m ≡ root_lines_of v c
+root_by : (vol : Volume) (c : Class) (k : ℕ) (m : Bool) → is_directory c ≡ is_dir_kind k →
+    is_allocated c ≡ is_allocated_kind k → is_suspect vol 2 ≡ (m || is_empty_dir_kind k) →
+    root_reported k m ≡ root_lines_of vol c
 unfolding root_reported
-root_by v Dir k m d a s = grind (arith, nat_tests)
-root_by v c k m d a s = grind (arith, nat_tests)
+root_by vol Dir k m d a s = grind (arith, nat_tests)
+root_by vol c k m d a s = grind (arith, nat_tests)
 
 pub root_is : (v : Layout) (b : List ℕ) (w : Workspace) (k : ℕ) (m : Bool) → k ≡ slice_index w.kinds.items 2 →
     m ≡ bool_at w.marked.items 2 → HoldsBlockCheck v b w →

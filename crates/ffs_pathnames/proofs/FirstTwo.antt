@@ -27,14 +27,14 @@ root_parent : (g : Graph) (x : ℕ) → x ≡ 2 → parent g x ≡ Some 2
 unfolding parent
 root_parent g x e = cond-true (x == 2) (Some 2) (parent_by g x (level g x)) (eq-eqb x 2 e)
 
-pub parent_back : (v : Volume) (x : ℕ) → number_if (unwrap_or (parent (graph_of v) x) 0) ≡ parent (graph_of v) x
-parent_back v x =
-    let root = root_parent (graph_of v) x in
-    let named = parent_edge (graph_of v) x 0 in
+pub parent_back : (vol : Volume) (x : ℕ) → number_if (unwrap_or (parent (graph_of vol) x) 0) ≡ parent (graph_of vol) x
+parent_back vol x =
+    let root = root_parent (graph_of vol) x in
+    let named = parent_edge (graph_of vol) x 0 in
     grind (arith, nat_tests)
 
-pub none_back : (v : Volume) (x : ℕ) → unwrap_or (parent (graph_of v) x) 0 ≡ 0 → None ≡ parent (graph_of v) x
-none_back v x e = ap number_if (sym e) ∙ parent_back v x
+pub none_back : (vol : Volume) (x : ℕ) → unwrap_or (parent (graph_of vol) x) 0 ≡ 0 → None ≡ parent (graph_of vol) x
+none_back vol x e = ap number_if (sym e) ∙ parent_back vol x
 
 -- in terms of the chunk that was found
 pub none_found : (order : Order) (start : List ℕ) (i : ℕ) (started : Bool) → entry_at order start 0 ≡ None →

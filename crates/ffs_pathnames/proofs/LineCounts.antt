@@ -56,13 +56,13 @@ pub extra_some : (attr : Attr) (path : List ℕ) (e : Entry) → 1 ≤ length (e
 extra_some attr path e = grind (arith, nat_tests)
 
 -- those of an entry, and those of the entries after it
-pub entry_counted : (v : Volume) (s : ℕ) (m : PassedNames) {m' : PassedNames} (e : RoledEntry)
+pub entry_counted : (vol : Volume) (s : ℕ) (m : PassedNames) {m' : PassedNames} (e : RoledEntry)
     (es es' : List RoledEntry) →
-    es ≡ e ∷ es' → after_roled v s m e ≡ m' →
-    length (entries_reported v s m es)
-    ≡ length (entries_reported v s m (e ∷ [])) + length (entries_reported v s m' es')
-entry_counted v s m e es es' is after =
-    rw (is, ← after, append-nil (roled_reported v s m e)) (length-append (roled_reported v s m e) _)
+    es ≡ e ∷ es' → after_roled vol s m e ≡ m' →
+    length (entries_reported vol s m es)
+    ≡ length (entries_reported vol s m (e ∷ [])) + length (entries_reported vol s m' es')
+entry_counted vol s m e es es' is after =
+    rw (is, ← after, append-nil (roled_reported vol s m e)) (length-append (roled_reported vol s m e) _)
 
 -- those of two parts
 pub lines_long : (all one more : List TreeMessage) → map of_tree all ≡ map of_tree one ++ map of_tree more →

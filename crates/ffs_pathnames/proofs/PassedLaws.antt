@@ -45,61 +45,61 @@ first_here p (d ∷ ds) e es h =
 first_in : (p : ℕ → Bool) (n s : ℕ) → s < n → p s ≡ true → is_value (first_below p n) s ≡ not (some_below p s)
 first_in p n s h e = grind (arith, first_below-tells, nat_tests)
 
-pub record IsDirectory (v : Volume) (s : ℕ) : Type 0 where
-  pub dir : is_dir v s ≡ true
-  pub below : s < v.count
+pub record IsDirectory (vol : Volume) (s : ℕ) : Type 0 where
+  pub dir : is_dir vol s ≡ true
+  pub below : s < vol.count
   pub from_two : 2 ≤ s
 
 -- an entry of s: `done` are before it, `es` after it
-pub record IsEntry (v : Volume) (s : ℕ) (done : List RoledEntry) (e : RoledEntry) (es : List RoledEntry) : Type 0 where
-  pub dir : IsDirectory v s
-  pub whole : roled_entries v s ≡ done ++ e ∷ es
+pub record IsEntry (vol : Volume) (s : ℕ) (done : List RoledEntry) (e : RoledEntry) (es : List RoledEntry) : Type 0 where
+  pub dir : IsDirectory vol s
+  pub whole : roled_entries vol s ≡ done ++ e ∷ es
 
 names_it : (e : RoledEntry) → e.role ≡ Plain → is_naming_entry e.entry.number e ≡ true
 names_it e p = grind (arith, common_steps)
 
-module _ {v : Volume} {s : ℕ} {done es : List RoledEntry} {e : RoledEntry} (i : IsEntry v s done e es)
+module _ {vol : Volume} {s : ℕ} {done es : List RoledEntry} {e : RoledEntry} (i : IsEntry vol s done e es)
     (p : e.role ≡ Plain) where
-  names_in_it : is_naming_dir (graph_of v) s e.entry.number ≡ true
+  names_in_it : is_naming_dir (graph_of vol) s e.entry.number ≡ true
   names_in_it = let n = names_it e p in grind (arith, common_steps, i.whole, i.dir.dir)
 
-  place_is : is_value (first_index (is_naming_entry e.entry.number) (roled_entries v s)) (size_of done)
+  place_is : is_value (first_index (is_naming_entry e.entry.number) (roled_entries vol s)) (size_of done)
       ≡ not (list_any (is_naming_entry e.entry.number) done)
   place_is = rw i.whole (first_here (is_naming_entry e.entry.number) done e es (names_it e p))
 
-  pub first_name_is : is_first_naming_entry (graph_of v) s (size_of done) e.entry.number
-      ≡ not (some_below (λ t. is_naming_dir (graph_of v) t e.entry.number) s
+  pub first_name_is : is_first_naming_entry (graph_of vol) s (size_of done) e.entry.number
+      ≡ not (some_below (λ t. is_naming_dir (graph_of vol) t e.entry.number) s
       || list_any (is_naming_entry e.entry.number) done)
   first_name_is = grind (arith, common_steps, first_in, place_is, names_in_it)
 
-  pub from_parent_is : is_parent_entry (graph_of v) s (size_of done) e.entry.number
-      ≡ ((not (e.entry.number == 2) && is_value (parent (graph_of v) e.entry.number) s)
+  pub from_parent_is : is_parent_entry (graph_of vol) s (size_of done) e.entry.number
+      ≡ ((not (e.entry.number == 2) && is_value (parent (graph_of vol) e.entry.number) s)
       && not (list_any (is_naming_entry e.entry.number) done))
   from_parent_is = let place = place_is in grind (arith, common_steps)
 
-  module _ {m : PassedNames} (r : RemembersWithin v s done m) where
-    suspect_same : e.entry.number < v.count → e.entry.number ≢ 1 →
-        is_first_of_suspect v (is_first_naming_entry (graph_of v) s (size_of done) e.entry.number) e.entry.number
-        ≡ is_first_of_suspect v (not (is_flagged m e.entry.number)) e.entry.number
+  module _ {m : PassedNames} (r : RemembersWithin vol s done m) where
+    suspect_same : e.entry.number < vol.count → e.entry.number ≢ 1 →
+        is_first_of_suspect vol (is_first_naming_entry (graph_of vol) s (size_of done) e.entry.number) e.entry.number
+        ≡ is_first_of_suspect vol (not (is_flagged m e.entry.number)) e.entry.number
     suspect_same h other = grind (arith, common_steps, first_name_is)
 
-    extraneous_same : e.entry.number < v.count →
-        is_extraneous v (is_parent_entry (graph_of v) s (size_of done) e.entry.number) e.entry.number
-        ≡ is_extraneous v (is_stamped s m e.entry.number) e.entry.number
+    extraneous_same : e.entry.number < vol.count →
+        is_extraneous vol (is_parent_entry (graph_of vol) s (size_of done) e.entry.number) e.entry.number
+        ≡ is_extraneous vol (is_stamped s m e.entry.number) e.entry.number
     extraneous_same h = grind (arith, common_steps, from_parent_is)
 
-    named_same : e.entry.number < v.count → e.entry.number ≢ 1 →
-        defects_on v (is_first_naming_entry (graph_of v) s (size_of done) e.entry.number)
-        (is_parent_entry (graph_of v) s (size_of done) e.entry.number) e.entry
-        ≡ defects_on v (not (is_flagged m e.entry.number)) (is_stamped s m e.entry.number) e.entry
+    named_same : e.entry.number < vol.count → e.entry.number ≢ 1 →
+        defects_on vol (is_first_naming_entry (graph_of vol) s (size_of done) e.entry.number)
+        (is_parent_entry (graph_of vol) s (size_of done) e.entry.number) e.entry
+        ≡ defects_on vol (not (is_flagged m e.entry.number)) (is_stamped s m e.entry.number) e.entry
     named_same h other = rw (suspect_same h other, extraneous_same h) refl
 
-    plain_same : plain_verdict v s (size_of done) e.entry ≡ verdict_at_reading v s m e.entry
+    plain_same : plain_verdict vol s (size_of done) e.entry ≡ verdict_at_reading vol s m e.entry
     unfolding plain_verdict
     plain_same = let named = named_same in grind (arith, common_steps)
 
-seen_same : {v : Volume} {s : ℕ} {done es : List RoledEntry} {e : RoledEntry} {m : PassedNames} →
-    IsEntry v s done e es → RemembersWithin v s done m → entry_lines v s (size_of done) e ≡ roled_reported v s m e
+seen_same : {vol : Volume} {s : ℕ} {done es : List RoledEntry} {e : RoledEntry} {m : PassedNames} →
+    IsEntry vol s done e es → RemembersWithin vol s done m → entry_lines vol s (size_of done) e ≡ roled_reported vol s m e
 unfolding entry_lines roled_reported
 seen_same i r = grind (arith, plain_same)
 
@@ -108,17 +108,17 @@ pub any_more : (p : RoledEntry → Bool) (done : List RoledEntry) (e : RoledEntr
     list_any p (done ++ e ∷ []) ≡ (list_any p done || p e)
 any_more p done e = grind (arith, common_steps)
 
-skips : {v : Volume} {s : ℕ} {done : List RoledEntry} {m : PassedNames} (e : RoledEntry) →
-    (is_plain e.role && nat_lt e.entry.number v.count) ≡ false → RemembersWithin v s done m → RemembersWithin v s (done ++ e ∷ []) m
+skips : {vol : Volume} {s : ℕ} {done : List RoledEntry} {m : PassedNames} (e : RoledEntry) →
+    (is_plain e.role && nat_lt e.entry.number vol.count) ≡ false → RemembersWithin vol s done m → RemembersWithin vol s (done ++ e ∷ []) m
 skips e t r = grind (arith, nat_tests, any_more)
 
 -- the flags of inodes that aren't suspect stay
-pub calm_roled : (v : Volume) (s : ℕ) (e : RoledEntry) (x : ℕ) (m : PassedNames) →
-    is_flagged_calm v (after_roled v s m e) x ≡ is_flagged_calm v m x
-calm_roled v s e x m = grind (arith, nat_tests, get_or-set_other)
+pub calm_roled : (vol : Volume) (s : ℕ) (e : RoledEntry) (x : ℕ) (m : PassedNames) →
+    is_flagged_calm vol (after_roled vol s m e) x ≡ is_flagged_calm vol m x
+calm_roled vol s e x m = grind (arith, nat_tests, get_or-set_other)
 
-passes : {v : Volume} {s : ℕ} {done : List RoledEntry} {m : PassedNames} (e : RoledEntry) → 2 ≤ s → e.role ≡ Plain →
-    e.entry.number < v.count → RemembersWithin v s done m → RemembersWithin v s (done ++ e ∷ []) (after_name v s m e.entry.number)
+passes : {vol : Volume} {s : ℕ} {done : List RoledEntry} {m : PassedNames} (e : RoledEntry) → 2 ≤ s → e.role ≡ Plain →
+    e.entry.number < vol.count → RemembersWithin vol s done m → RemembersWithin vol s (done ++ e ∷ []) (after_name vol s m e.entry.number)
 passes {done = done} e two p low r = record {
   named = λ x h q u n.
       let a = r.named x h q u n in
@@ -132,25 +132,25 @@ passes {done = done} e two p low r = record {
   stamps_length = grind (arith, nat_tests, length-set);
 }
 
-pub right_after : {v : Volume} {s : ℕ} {done : List RoledEntry} {m : PassedNames} (e : RoledEntry) → 2 ≤ s →
-    RemembersWithin v s done m → RemembersWithin v s (done ++ e ∷ []) (after_roled v s m e)
-right_after {v = v} {s = s} {done = done} {m = m} e two r = one (is_plain e.role && nat_lt e.entry.number v.count) refl
+pub right_after : {vol : Volume} {s : ℕ} {done : List RoledEntry} {m : PassedNames} (e : RoledEntry) → 2 ≤ s →
+    RemembersWithin vol s done m → RemembersWithin vol s (done ++ e ∷ []) (after_roled vol s m e)
+right_after {vol = vol} {s = s} {done = done} {m = m} e two r = one (is_plain e.role && nat_lt e.entry.number vol.count) refl
   where
-    one : (b : Bool) → (is_plain e.role && nat_lt e.entry.number v.count) ≡ b →
-        RemembersWithin v s (done ++ e ∷ []) (if b then after_name v s m e.entry.number else m)
+    one : (b : Bool) → (is_plain e.role && nat_lt e.entry.number vol.count) ≡ b →
+        RemembersWithin vol s (done ++ e ∷ []) (if b then after_name vol s m e.entry.number else m)
     one false t = skips e t r
     one true t =
         let q = and_parts (is_plain e.role) _ t in
-        passes e two (plain-true e.role q.0) (ltb-true e.entry.number v.count q.1) r
+        passes e two (plain-true e.role q.0) (ltb-true e.entry.number vol.count q.1) r
 
 -- ---- all entries
-pub right_reported : {v : Volume} {s : ℕ} (done es : List RoledEntry) (m : PassedNames) → IsDirectory v s →
-    roled_entries v s ≡ done ++ es → RemembersWithin v s done m →
-    lines_of_entries v s (size_of done) es ≡ entries_reported v s m es
+pub right_reported : {vol : Volume} {s : ℕ} (done es : List RoledEntry) (m : PassedNames) → IsDirectory vol s →
+    roled_entries vol s ≡ done ++ es → RemembersWithin vol s done m →
+    lines_of_entries vol s (size_of done) es ≡ entries_reported vol s m es
 unfolding lines_of_entries
 right_reported done [] m d whole r = refl
-right_reported {v = v} {s = s} done (e ∷ es) m d whole r =
-    let i : IsEntry v s done e es = record { dir = d; whole = whole } in
-    let rest = right_reported (done ++ e ∷ []) es (after_roled v s m e) d
+right_reported {vol = vol} {s = s} done (e ∷ es) m d whole r =
+    let i : IsEntry vol s done e es = record { dir = d; whole = whole } in
+    let rest = right_reported (done ++ e ∷ []) es (after_roled vol s m e) d
     (whole ∙ sym (append_assoc done (e ∷ []) es)) (right_after e d.from_two r) in
     rw (seen_same i r, ← size_more done e, rest)

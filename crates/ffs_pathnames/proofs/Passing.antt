@@ -13,52 +13,52 @@ use Rattle.ffs_pathnames.{specs.{KnowsNoted.KnowsNoted, Stamps.KeepParts}, proof
 use Rattle.ffs_pathnames.specs.PassedNames.{PassedNames, after_roled, after_entries, roled_reported, entries_reported}
 
 -- the names that were passed after some entries and others
-after_more : (v : Volume) (s : ℕ) (m : PassedNames) (xs ys : List RoledEntry) → after_entries v s m (xs ++ ys)
-    ≡ after_entries v s (after_entries v s m xs) ys
-after_more v s m [] ys = refl
-after_more v s m (x ∷ xs) ys = after_more v s (after_roled v s m x) xs ys
+after_more : (vol : Volume) (s : ℕ) (m : PassedNames) (xs ys : List RoledEntry) → after_entries vol s m (xs ++ ys)
+    ≡ after_entries vol s (after_entries vol s m xs) ys
+after_more vol s m [] ys = refl
+after_more vol s m (x ∷ xs) ys = after_more vol s (after_roled vol s m x) xs ys
 
 -- what is reported of some entries and others
-reported_more : (v : Volume) (s : ℕ) (m : PassedNames) (xs ys : List RoledEntry) →
-    entries_reported v s m (xs ++ ys) ≡ entries_reported v s m xs ++ entries_reported v s (after_entries v s m xs) ys
-reported_more v s m [] ys = refl
-reported_more v s m (x ∷ xs) ys = rw (reported_more v s (after_roled v s m x) xs ys) (simp append_assoc)
+reported_more : (vol : Volume) (s : ℕ) (m : PassedNames) (xs ys : List RoledEntry) →
+    entries_reported vol s m (xs ++ ys) ≡ entries_reported vol s m xs ++ entries_reported vol s (after_entries vol s m xs) ys
+reported_more vol s m [] ys = refl
+reported_more vol s m (x ∷ xs) ys = rw (reported_more vol s (after_roled vol s m x) xs ys) (simp append_assoc)
 
 -- an entry is reported, and the others are to come
-pub entry_reported : (v : Volume) (s : ℕ) (m : PassedNames) {m' : PassedNames} (e : RoledEntry)
+pub entry_reported : (vol : Volume) (s : ℕ) (m : PassedNames) {m' : PassedNames} (e : RoledEntry)
     (es es' : List RoledEntry) →
-    es ≡ e ∷ es' → after_roled v s m e ≡ m' →
-    map of_tree (entries_reported v s m es) ≡ map of_tree (entries_reported v s m (e ∷ []))
-    ++ map of_tree (entries_reported v s m' es')
-entry_reported v s m e es es' is after =
-    rw (is, ← after, append-nil (roled_reported v s m e)) (map-append of_tree (roled_reported v s m e) _)
+    es ≡ e ∷ es' → after_roled vol s m e ≡ m' →
+    map of_tree (entries_reported vol s m es) ≡ map of_tree (entries_reported vol s m (e ∷ []))
+    ++ map of_tree (entries_reported vol s m' es')
+entry_reported vol s m e es es' is after =
+    rw (is, ← after, append-nil (roled_reported vol s m e)) (map-append of_tree (roled_reported vol s m e) _)
 
 -- an entry is passed
-pub entry_passed : (v : Volume) (s : ℕ) {all : PassedNames} (m : PassedNames) {m' : PassedNames} {e : RoledEntry}
+pub entry_passed : (vol : Volume) (s : ℕ) {all : PassedNames} (m : PassedNames) {m' : PassedNames} {e : RoledEntry}
     {es es' : List RoledEntry} →
-    es ≡ e ∷ es' → after_roled v s m e ≡ m' → all ≡ after_entries v s m es → all ≡ after_entries v s m' es'
-entry_passed v s m is after q = rw (← after) (rw is at q)
+    es ≡ e ∷ es' → after_roled vol s m e ≡ m' → all ≡ after_entries vol s m es → all ≡ after_entries vol s m' es'
+entry_passed vol s m is after q = rw (← after) (rw is at q)
 
 -- a chunk is reported, and the others are to come
-pub chunk_reported : (v : Volume) (s : ℕ) (m : PassedNames) {m' : PassedNames} (c : Chunk) (cs cs' : List Chunk) →
-    cs ≡ c ∷ cs' → after_entries v s m (roled_chunk c) ≡ m' →
-    map of_tree (entries_reported v s m (flat_map roled_chunk cs))
-    ≡ map of_tree (entries_reported v s m (roled_chunk c))
-    ++ map of_tree (entries_reported v s m' (flat_map roled_chunk cs'))
-chunk_reported v s m c cs cs' is after = grind (arith, reported_more, map-append)
+pub chunk_reported : (vol : Volume) (s : ℕ) (m : PassedNames) {m' : PassedNames} (c : Chunk) (cs cs' : List Chunk) →
+    cs ≡ c ∷ cs' → after_entries vol s m (roled_chunk c) ≡ m' →
+    map of_tree (entries_reported vol s m (flat_map roled_chunk cs))
+    ≡ map of_tree (entries_reported vol s m (roled_chunk c))
+    ++ map of_tree (entries_reported vol s m' (flat_map roled_chunk cs'))
+chunk_reported vol s m c cs cs' is after = grind (arith, reported_more, map-append)
 
 -- a chunk is passed
-pub chunk_passed : (v : Volume) (s : ℕ) {all : PassedNames} (m : PassedNames) {m' : PassedNames} {c : Chunk}
+pub chunk_passed : (vol : Volume) (s : ℕ) {all : PassedNames} (m : PassedNames) {m' : PassedNames} {c : Chunk}
     {cs cs' : List Chunk} →
-    cs ≡ c ∷ cs' → after_entries v s m (roled_chunk c) ≡ m' →
-    all ≡ after_entries v s m (flat_map roled_chunk cs) → all ≡ after_entries v s m' (flat_map roled_chunk cs')
-chunk_passed v s m is after q = grind (arith, after_more)
+    cs ≡ c ∷ cs' → after_entries vol s m (roled_chunk c) ≡ m' →
+    all ≡ after_entries vol s m (flat_map roled_chunk cs) → all ≡ after_entries vol s m' (flat_map roled_chunk cs')
+chunk_passed vol s m is after q = grind (arith, after_more)
 
 -- an entry is passed, where what is remembered is in the lists of a workspace
-pub passes : (v : Volume) (d : ℕ) (e : RoledEntry) {p p' : List Bool} {s s' : List ℕ} {m : PassedNames} → p' ≡ p →
-    s' ≡ s → after_roled v d (record { flags = p'; stamps = s' }) e ≡ m →
-    after_roled v d (record { flags = p; stamps = s }) e ≡ m
-passes v d e flags stamps law = rw (← flags, ← stamps) law
+pub passes : (vol : Volume) (d : ℕ) (e : RoledEntry) {p p' : List Bool} {s s' : List ℕ} {m : PassedNames} → p' ≡ p →
+    s' ≡ s → after_roled vol d (record { flags = p'; stamps = s' }) e ≡ m →
+    after_roled vol d (record { flags = p; stamps = s }) e ≡ m
+passes vol d e flags stamps law = rw (← flags, ← stamps) law
 
 -- what is known of a workspace's lists stays where they stay
 pub knows_on : (v : Layout) (contents contents' : Option (List ℕ)) (old new : Workspace) (d : ℕ) (b : List ℕ) →

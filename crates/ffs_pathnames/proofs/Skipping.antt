@@ -37,7 +37,7 @@ pub noted_before : (v : Layout) (contents contents' : Option (List ℕ)) (old ne
 unfolding volume_of volume_with
 noted_before v contents contents' old new n b two same lists made survey none k = record {
   gives_bytes = same ∙ k.gives_bytes;
-  claims = findings_claims v b old new (findings_noted old new lists) k.claims;
+  block_check = findings_claims v b old new (findings_noted old new lists) k.block_check;
   survey = survey;
   passed = grind (arith, ap, none_stamped, stamps_length);
 }

@@ -76,20 +76,20 @@ pub none_due : (ws : List ℕ) (x : ℕ) → slice_index ws x ≡ 0 → is_due (
 none_due ws x e = rw e refl
 
 -- the inode that an entry names is stamped where it belongs to the directory
-pub after_stamp : (v : Volume) (i : Inodes) (s word : ℕ) (ws ws' : List ℕ) (role : Role) (e : Entry) → Sees v i → 2 ≤ s
+pub after_stamp : (vol : Volume) (i : Inodes) (s word : ℕ) (ws ws' : List ℕ) (role : Role) (e : Entry) → Sees vol i → 2 ≤ s
     → is_plain role ≡ true
     → (is_dir_kind (slice_index i.kinds.now e.number)
     && (not (e.number == 2) && (slice_index i.parents.now.items e.number == s))) ≡ true
     → ws' ≡ slice_set ws e.number word → is_due word ≡ true →
-    stamps_in i ws' ≡ after_look v s (stamps_in i ws) (record { role = role; entry = e })
-after_stamp v i s word ws ws' role e sees two plain mine set due = grind (arith, and_parts, and_from, stamped, eqb-true)
+    stamps_in i ws' ≡ after_look vol s (stamps_in i ws) (record { role = role; entry = e })
+after_stamp vol i s word ws ws' role e sees two plain mine set due = grind (arith, and_parts, and_from, stamped, eqb-true)
 
 -- an entry that names an inode due in s is passed
-pub after_pass : (v : Volume) (i : Inodes) (s word : ℕ) (suspect : Bool) (flags flags' : List Bool) (ws ws' : List ℕ)
-    (role : Role) (e : Entry) → Sees v i → is_plain role ≡ true → e.number < length i.kinds.now
+pub after_pass : (vol : Volume) (i : Inodes) (s word : ℕ) (suspect : Bool) (flags flags' : List Bool) (ws ws' : List ℕ)
+    (role : Role) (e : Entry) → Sees vol i → is_plain role ≡ true → e.number < length i.kinds.now
     → suspect ≡ suspect_at i.kinds.now i.marked.now.items e.number
     → flags' ≡ (if suspect then slice_set flags e.number true else flags)
     → slice_index (stamps_in i ws) e.number ≡ s → ws' ≡ slice_set ws e.number word → is_due word ≡ false →
-    after_roled v s (passed_in i flags ws) (record { role = role; entry = e }) ≡ passed_in i flags' ws'
-after_pass v i s word suspect flags flags' ws ws' role e sees plain below shown flagged stamp set due =
+    after_roled vol s (passed_in i flags ws) (record { role = role; entry = e }) ≡ passed_in i flags' ws'
+after_pass vol i s word suspect flags flags' ws ws' role e sees plain below shown flagged stamp set due =
     grind (arith, lt-ltb, unstamped, eq-eqb)

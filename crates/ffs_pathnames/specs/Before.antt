@@ -24,7 +24,7 @@ pub record IsNonePassed (old new : Workspace) : Type 0 where
 -- what it remembers of the names that were passed before `dir` is right
 pub record KnowsBefore (v : Layout) (contents : Option (List ℕ)) (w : Workspace) (dir : ℕ) (b : List ℕ) : Type 0 where
   pub gives_bytes : contents ≡ Some b
-  pub claims : HoldsBlockCheck v b w
+  pub block_check : HoldsBlockCheck v b w
   pub survey : HoldsSurvey v b w
   pub passed : RemembersBefore (volume_of v b) dir (passed_of w)
 

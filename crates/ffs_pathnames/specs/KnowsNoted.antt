@@ -14,7 +14,7 @@ use Rattle.ffs_pathnames.specs.declared.entry_texts.EntryTexts.{EntryTexts}
 pub record KnowsNoted (v : Layout) (contents : Option (List ℕ)) (w : Workspace) (x : ℕ) (b : List ℕ) :
     Type 0 where
   pub gives_bytes : IsContents contents b
-  pub claims : HoldsBlockCheck v b w
+  pub block_check : HoldsBlockCheck v b w
   pub survey : HoldsSurvey v b w
   pub noted : AreNoted v b w.queue.items
   pub dir : is_dir (volume_of v b) x ≡ true

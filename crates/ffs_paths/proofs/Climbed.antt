@@ -79,7 +79,7 @@ climb_leaves {old = old} {new = new} {x = x} reached reads way counted searched 
   counted = λ b k. few_more (counted b k).few (counted b k).most;
   names = λ b k.
       let l = reached-level _ x (sym (k.survey.tree.reached x) ∙ reached) in
-      climbed_names l.1 (way b k.gives_bytes k.claims k.survey l.0 l.1) (counted b k);
+      climbed_names l.1 (way b k.gives_bytes k.block_check k.survey l.0 l.1) (counted b k);
   searched = λ b n k few.
       let l = reached-level _ x (sym (k.2.tree.reached x) ∙ reached) in
       steps_below old.reads new.reads n l.1 (way b k.0 k.1 k.2 l.0 l.1) (searched b n k few);

@@ -87,7 +87,7 @@ pub record ReadsName {T : Type 0} (v : Layout) (dir : ℕ) (old new : WorkMoment
 -- it notes the place of each directory that is reached
 pub record KnowsPlaces (v : Layout) (contents : Option (List ℕ)) (w : Workspace) (b : List ℕ) : Type 0 where
   pub gives_bytes : IsContents contents b
-  pub claims : HoldsBlockCheck v b w
+  pub block_check : HoldsBlockCheck v b w
   pub survey : HoldsSurvey v b w
   pub noted : AreNoted v b w.queue.items
 

@@ -4,7 +4,7 @@ use Rattle.std.proofs.Common.{◌∷◌}
 use Rattle.ffs_volume.specs.Messages.Kinds.{Message}
 use Rattle.ffs_report.specs.{Progress.{Progress, Said, Stopped}, PhaseOutcome.{SaidTo, SaidOf}}
 use Rattle.ffs_image.specs.Known.{ForBytes}
-use Rattle.ffs_report.specs.PhaseOutcome.{HeadingFirst, PhaseReports, SaidPrefixOf, StoppedOf}
+use Rattle.ffs_report.specs.PhaseOutcome.{FirstMessages, HeadingFirst, PhaseReports}
 use Rattle.ffs_report.proofs.Reports.{said_none}
 use Rattle.ffs_report.{proofs.Reports.{said_then, stopped_after, stopped_more}, specs.declared.fault.RunFault.RunFault}
 use Rattle.ffs_report.specs.declared.fault.RunFault.TheVariants.{Read, Out}
@@ -45,17 +45,18 @@ of_says {knows} {rest} {rest'} {all} {ms} {a} {b} {c} p e q = record {
 pub of_stops : (knows : List ℕ → Type 0) (rest rest' all : List ℕ → List Message) (ms : List Message) (a b c : Progress)
     →
     SaidOf knows rest all a b → ForBytes knows (λ bytes. rest bytes ≡ ms ++ rest' bytes) → Stopped b c ms →
-    StoppedOf knows all a c
+    FirstMessages knows all (Stopped a c)
 of_stops knows rest rest' all ms a b c p e q = record {
   messages = p.messages ++ ms;
   rest = rest';
   right = λ bytes k. grind (arith, append_assoc, e bytes k, p.right bytes k);
-  stopped = stopped_after a b c p.messages ms p.said q;
+  told = stopped_after a b c p.messages ms p.said q;
 }
 
 pub of_reads : {knows : List ℕ → Type 0} {rest all : List ℕ → List Message} {a b : Progress} → SaidOf knows rest all a b
-    → SaidPrefixOf knows all a b
-of_reads {knows} {rest} {all} {a} {b} p = record { rest = rest; prefix = p }
+    → FirstMessages knows all (Said a b)
+of_reads {knows} {rest} {all} {a} {b} p =
+    record { messages = p.messages; rest = rest; right = p.right; told = p.said }
 
 -- all was said at once, or nothing is to come, and the output failed among all
 pub says_all : {knows : List ℕ → Type 0} {all : List ℕ → List Message} {ms : List Message} {a b : Progress} →
@@ -67,16 +68,16 @@ pub says_none : {knows : List ℕ → Type 0} {all : List ℕ → List Message} 
 says_none {knows} {all} {a} e = says_all e (said_none a)
 
 pub stops_all : {knows : List ℕ → Type 0} {all : List ℕ → List Message} {ms : List Message} {a b : Progress} →
-    ForBytes knows (λ bytes. all bytes ≡ ms) → Stopped a b ms → StoppedOf knows all a b
+    ForBytes knows (λ bytes. all bytes ≡ ms) → Stopped a b ms → FirstMessages knows all (Stopped a b)
 stops_all {knows} {all} {ms} e p = record {
   messages = ms;
   rest = λ bytes. [];
   right = λ bytes k. append-nil ms ∙ sym (e bytes k);
-  stopped = p;
+  told = p;
 }
 
 -- a read failed before anything was said
-pub reads_first : {knows : List ℕ → Type 0} {all : List ℕ → List Message} {a : Progress} → SaidPrefixOf knows all a a
+pub reads_first : {knows : List ℕ → Type 0} {all : List ℕ → List Message} {a : Progress} → FirstMessages knows all (Said a a)
 reads_first {knows} {all} {a} = of_reads (of_begins {all = all})
 
 -- a heading was said, and other messages are to come
@@ -86,9 +87,9 @@ pub says_heading : {knows : List ℕ → Type 0} {lines rest : List ℕ → List
 says_heading {m = m} e p = grind arith
 
 pub stops_heading : {knows : List ℕ → Type 0} {lines : List ℕ → List Message} {m : Message} {a b : Progress} →
-    Stopped a b (m ∷ []) → StoppedOf knows (λ bytes. m ∷ lines bytes) a b
+    Stopped a b (m ∷ []) → FirstMessages knows (λ bytes. m ∷ lines bytes) (Stopped a b)
 stops_heading {lines = lines} {m = m} p =
-    record { messages = m ∷ []; rest = lines; right = λ bytes k. refl; stopped = p }
+    record { messages = m ∷ []; rest = lines; right = λ bytes k. refl; told = p }
 
 -- what is to come has changed its form
 pub of_same : {knows : List ℕ → Type 0} {rest rest' all : List ℕ → List Message} {a b : Progress} →
@@ -117,18 +118,16 @@ pub of_fault : (T E : Type 0) (knows : List ℕ → Type 0) (rest part rest' all
     SaidOf knows rest all a b → ForBytes knows (λ bytes. rest bytes ≡ part bytes ++ rest' bytes) →
     PhaseReports {T = T} knows part b c (Err fault) → PhaseReports {T = E} knows all a c (Err fault)
 of_fault T E knows rest part rest' all a b c (Read fault) p e q = record {
+  messages = p.messages ++ q.messages;
   rest = λ bytes. q.rest bytes ++ rest' bytes;
-  prefix = record {
-    messages = p.messages ++ q.prefix.messages;
-    right = part_right knows rest part rest' all q.rest p.messages q.prefix.messages p.right e q.prefix.right;
-    said = said_then a b c p.messages q.prefix.messages p.said q.prefix.said;
-  };
+  right = part_right knows rest part rest' all q.rest p.messages q.messages p.right e q.right;
+  told = said_then a b c p.messages q.messages p.said q.told;
 }
 of_fault T E knows rest part rest' all a b c (Out fault) p e q = record {
   messages = p.messages ++ q.messages;
   rest = λ bytes. q.rest bytes ++ rest' bytes;
   right = part_right knows rest part rest' all q.rest p.messages q.messages p.right e q.right;
-  stopped = stopped_after a b c p.messages q.messages p.said q.stopped;
+  told = stopped_after a b c p.messages q.messages p.said q.told;
 }
 
 -- the outcome of a phase's last part
@@ -193,5 +192,5 @@ pub heading_part : {T U : Type 0} {heading : Message} (knows : List ℕ → Type
     {a b c : Progress} {x : T} (r : Result U RunFault) → HeadingFirst heading a b (Ok x) →
     PhaseReports knows part b c r → HeadingFirst heading a c r
 heading_part knows part (Ok y) p q = heading_then q.messages p q.said
-heading_part knows part (Err (Read fault)) p q = heading_reads (heading_then {y = tt {0}} q.prefix.messages p q.prefix.said)
-heading_part knows part (Err (Out fault)) p q = heading_stops q.messages p q.stopped
+heading_part knows part (Err (Read fault)) p q = heading_reads (heading_then {y = tt {0}} q.messages p q.told)
+heading_part knows part (Err (Out fault)) p q = heading_stops q.messages p q.told

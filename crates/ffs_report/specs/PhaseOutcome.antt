@@ -26,24 +26,20 @@ pub record SaidOf (knows : List ℕ → Type 0) (rest all : List ℕ → List Me
   pub right : ForBytes knows (λ bytes. messages ++ rest bytes ≡ all bytes)
   pub said : Said old new messages
 
--- whole messages were said, the first ones of `all`, perhaps all of them
-pub record SaidPrefixOf (knows : List ℕ → Type 0) (all : List ℕ → List Message) (old new : Progress) : Type 0 where
-  pub rest : List ℕ → List Message
-  pub prefix : SaidOf knows rest all old new
-
--- the output failed among the messages
-pub record StoppedOf (knows : List ℕ → Type 0) (all : List ℕ → List Message) (old new : Progress) : Type 0 where
+-- the first ones of these messages, perhaps all of them, were said, or the output failed among them: as `IsTold` has it
+pub record FirstMessages (knows : List ℕ → Type 0) (all : List ℕ → List Message) (IsTold : List Message → Type 0) :
+    Type 0 where
   pub messages : List Message
   pub rest : List ℕ → List Message
   pub right : ForBytes knows (λ bytes. messages ++ rest bytes ≡ all bytes)
-  pub stopped : Stopped old new messages
+  pub told : IsTold messages
 
 -- all messages at Ok, whole ones at a read's fault, a prefix of their bytes at a fault of the output
 abbrev pub PhaseReports : {T : Type 0} → (List ℕ → Type 0) → (List ℕ → List Message) → (old new : Progress) →
     Result T RunFault → Type 0
 PhaseReports knows all old new (Ok x) = SaidOf knows (λ bytes. []) all old new
-PhaseReports knows all old new (Err (Read fault)) = SaidPrefixOf knows all old new
-PhaseReports knows all old new (Err (Out fault)) = StoppedOf knows all old new
+PhaseReports knows all old new (Err (Read fault)) = FirstMessages knows all (Said old new)
+PhaseReports knows all old new (Err (Out fault)) = FirstMessages knows all (Stopped old new)
 
 -- the outcome of saying these messages, by an answer that may be a read's fault: they were said before that
 abbrev pub SaysBeforeFault : {T : Type 0} → List Message → (old new : Progress) → Result T RunFault → Type 0

@@ -44,11 +44,13 @@ abbrev pub indirect_given : Option KeptRun → ℕ
 indirect_given None = 0
 indirect_given (Some run) = indirect_in_run run
 
--- the next Run in an image of these contents is given, and the others are left; None comes after the last
+-- the next Run in an image of these contents is given, and the others are left; None comes after the last,
+-- and none after it
 pub record IsNextRun (contents : Option (List ℕ)) (old new : KeptRuns) (answer : Option KeptRun) : Type 0 where
   pub runs : ForContents contents (λ bytes. MatchOption answer (kept_runs_left bytes old ≡ [])
       (λ run. kept_runs_left bytes old ≡ run ∷ kept_runs_left bytes new))
   pub falls : IfSome answer (λ _. most_steps_left new.walk < most_steps_left old.walk)
+  pub over : answer ≡ None → (bytes : List ℕ) → kept_runs_left bytes new ≡ []
 
 -- giving a Run reads only a block that was still to be read
 pub record RunReads (before after : ImageWith Blocks) (old new : Walk) (result : Result (Option KeptRun) ImageFault) :
@@ -58,7 +60,7 @@ pub record RunReads (before after : ImageWith Blocks) (old new : Walk) (result :
   pub held : OnOk result (AreHeld after.cache new)
 
 -- the next Run is given, or a read failed, after which none comes. Where the blocks that were read are held,
--- only one that was still to be read is read
+-- only one that was still to be read is read; in any case at most one for each step that is left, and one more
 pub record GivesRun (before after : ImageWith Blocks) (old new : KeptRuns) (result : Result (Option KeptRun) ImageFault)
     : Type 0 where
   pub run : IfOk result (IsNextRun before.image.contents old new)
@@ -66,3 +68,4 @@ pub record GivesRun (before after : ImageWith Blocks) (old new : KeptRuns) (resu
   pub geometry : new.walk.geometry ≡ old.walk.geometry
   pub leaves : BlocksAfter old.walk.geometry.layout before after result
   pub counted : AreHeld before.cache old.walk → RunReads before after old.walk new.walk result
+  pub any : after.reads ≤ before.reads + most_steps_left old.walk + 1

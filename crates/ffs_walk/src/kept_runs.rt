@@ -41,7 +41,7 @@ impl KeptRuns {
     }
 
     /// The next Run that is seen, also one of which no offer is kept, and `None` after the last
-    /// one. An indirect block is read as `Walk::next` says.
+    /// one, also if it is called again. An indirect block is read as `Walk::next` says.
     ///
     /// # Errors
     /// A read of an indirect block that failed. No Run comes then.

@@ -82,6 +82,6 @@ pub record HoldsBlockCheck (v : Layout) (image : List ℕ) (w : Workspace) : Typ
 
 -- what the block check and the survey leave, with the counts of references
 pub record HoldsFindings (v : Layout) (image : List ℕ) (w : Workspace) : Type 0 where
-  pub claims : HoldsBlockCheck v image w
+  pub block_check : HoldsBlockCheck v image w
   pub survey : HoldsSurvey v image w
   pub references : HoldsReferences v image w

@@ -2,7 +2,7 @@ use Rattle.ffs_volume.specs.Report.Whole.{phase_lines}
 use Rattle.ffs_layout.specs.Super.{superblock_in}
 use Rattle.ffs_report.specs.Progress.{progress}
 use Rattle.ffs_check.specs.Moment.{report_moment}
-use Rattle.ffs_check.proofs.{AnyReading.ended_reads, Answering.answers_end, Endings.{ran, same_output}, Sections.sections_end}
+use Rattle.ffs_check.proofs.{AnyReading.ended_reads, Answering.{answers_end, whole_end}, Endings.{ran, same_output}, Sections.sections_end}
 use Rattle.ffs_check.proofs.check.run_to_end.Goals as goal
 
 pub returns : goal.returns
@@ -25,6 +25,7 @@ returns g c =
               phases.reads.paid ended;
         };
         answers = answers_end c.args.had_defect _ _ answer _ ended phases.leaves.answers;
+        holds = λ whole. phases.leaves.holds (whole_end c.args.had_defect _ _ answer _ ended whole);
         made = phases.leaves.ready.made;
       };
       same_reference = same_output _ (λ bytes. phase_lines bytes s) c.args.had_defect old.report said new.report answer _

@@ -5,8 +5,7 @@ use Rattle.ffs_volume.specs.Blocks.Claims.{after_step, after_steps, lines_of_ste
 use Rattle.ffs_volume.specs.Blocks.Steps.{steps_of}
 use Rattle.ffs_volume.specs.{declared.Step.TheVariants.Gap, Costs.VolumeReads.indirect_in_steps}
 use Rattle.ffs_report.proofs.Reporting.{of_begins, of_stops, of_reads, of_same, says_none}
-use Rattle.ffs_image.specs.Known.{ForBytes}
-use Rattle.ffs_image.specs.Known.{IsContents}
+use Rattle.ffs_image.specs.Device.{ForContents}
 use Rattle.ffs_walk.{proofs.{Counted.{top_held, top_unread}, WalkSteps.top_ends}, specs.Rests.steps_left}
 use Rattle.ffs_workspace.specs.Holds.{claims_of}
 use Rattle.ffs_claims.proofs.{Frames.{can_walk, ready_still, ready_read, only_then}, Inodes.{sees_next, moves_on}}
@@ -88,7 +87,7 @@ returns-then-not-has_address g c =
     let s' = claims_of c.claim_direct.new.workspace in
     let end = c.claim_direct.ensures.top in
     let over = λ (bytes : List ℕ). top_ends bytes w (grind arith) end.single end.double end.triple in
-    let now : ForBytes (IsContents image)
+    let now : ForContents image
     (λ bytes. s' ≡ after_steps v s (steps_of v c.args.owner.now.inode.now bytes)) = λ bytes t.
     sym (ap (after_steps v s') (over bytes)) ∙ words.means.claims image blocks bytes t
     ∙ ap (after_steps v s) (walk.steps bytes) in
@@ -190,7 +189,7 @@ loop-next-preserved-then-matches g c =
       | in_default-matches w ↦ cc
     ] in
     let rest = λ (bytes : List ℕ). steps_left bytes c.skip_gaps.new.self in
-    let gaps : ForBytes (IsContents (g.I.Image.device c.args.image.now).contents)
+    let gaps : ForContents (g.I.Image.device c.args.image.now).contents
     (λ bytes. steps_left bytes c.loop-next.sweep.walk ≡ Gap ∷ replicate c.skip_gaps.result Gap ++ rest bytes) =
     λ bytes t. (rw (inv.device, c.in-Some.is, is_gap) at c.in_ok-next.ensures.step.steps) bytes t
     ∙ ap (λ xs. Gap ∷ xs) (c.skip_gaps.ensures.steps (g.I.Image.device c.next.new.image).contents

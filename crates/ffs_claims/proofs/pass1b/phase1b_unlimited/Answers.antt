@@ -211,7 +211,7 @@ returns-then-not-has_unreported_dups g c =
       again = of_same {rest' = λ bytes. []} inv.said
           (λ bytes k. ap of_lines (none_first d (kept_from v bytes n) none));
       leaves = λ bytes k. record {
-        claims = claims_hold v bytes c.args.workspace.now _ k.1 inv.claims (reporting_over none (inv.reported bytes (k.0, k.1.notes)));
+        block_check = claims_hold v bytes c.args.workspace.now _ k.1 inv.claims (reporting_over none (inv.reported bytes (k.0, k.1.notes)));
         reported = all_reported v bytes _ _ k.1 (reporting_over none (inv.reported bytes (k.0, k.1.notes)));
         unsurveyed = ap (λ (w : Workspace). w.surveyed) inv.claims.only ∙ k.1.unsurveyed;
         count = omega (arith, inv.count bytes k, looked_none d (runs_from v bytes n) none);
@@ -241,7 +241,7 @@ returns-after-loop-number g c =
       again = of_same {rest' = λ bytes. []} inv.said (λ bytes k. ap (λ os. of_lines (first_offer_lines d os))
           (kept_end v bytes (claims_before v bytes n) n past));
       leaves = λ bytes k. record {
-        claims = claims_hold v bytes c.args.workspace.now _ k.1 inv.claims
+        block_check = claims_hold v bytes c.args.workspace.now _ k.1 inv.claims
             (reporting_ends (inv.reported bytes (k.0, k.1.notes)) (kept_end v bytes (claims_before v bytes n) n past));
         reported = all_reported v bytes _ _ k.1
             (reporting_ends (inv.reported bytes (k.0, k.1.notes)) (kept_end v bytes (claims_before v bytes n) n past));

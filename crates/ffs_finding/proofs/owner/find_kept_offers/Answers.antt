@@ -35,7 +35,7 @@ returns-in_err-run-clause-finds g c =
     rw (p.1, p.2) (record {
       found = record {
         image = rw inv.device at c.in_err-run.ensures.leaves.read;
-        text = record { rest = _; printed = inv.printed };
+        text = record { lines = inv.printed.lines; rest = _; right = inv.printed.right; told = inv.printed.took };
       };
       reads = λ b k. omega (arith, inv.paid b k, reads.most);
     })

@@ -1,6 +1,6 @@
 use Rattle.std.proofs.Common.{◌≡◌, ◌+◌, ◌<◌, ◌≤◌, ◌^◌, length}
 use Rattle.ffs_volume.specs.{Blocks.Steps.steps_of, Encodings.{Replay.fresh_replay, ReplayCounts.replayed_runs}}
-use Rattle.ffs_image.specs.Known.{ForBytes, IsContents}
+use Rattle.ffs_image.specs.{Device.ForContents, Known.IsContents}
 use Rattle.ffs_walk.specs.{Counts.{AreHeld, unread}, KeptRuns.kept_runs_left, Rests.most_steps_left, Windows.KeepsBlocks}
 use Rattle.ffs_finding.specs.{Keepers.{lines_of_runs, sought_lines}, Outcome.PrintedTo}
 use Rattle.ffs_finding.proofs.owner.find_kept_offers.Given as goal
@@ -15,7 +15,7 @@ invariant-loop-run g l =
       blocks : KeepsBlocks v d.contents l.fn.blocks l.blocks;
       held : AreHeld l.blocks l.runs.walk;
       room : l.earlier + most_steps_left l.runs.walk < 2 ^ 62;
-      paid : ForBytes (IsContents d.contents) (λ b. g.I.Image.reads l.image + unread l.runs.walk
+      paid : ForContents d.contents (λ b. g.I.Image.reads l.image + unread l.runs.walk
           + length (kept_runs_left b l.runs)
           ≤ g.I.Image.reads l.fn.image + replayed_runs v l.sought.cut fresh_replay (steps_of v l.inode b));
       printed : PrintedTo (IsContents d.contents)

@@ -90,7 +90,7 @@ returns-clause-survey g c = λ b k.
             survey = record { tree = tree; places = filled_noted _ _ _ _ c.fill.ensures.items };
             references = references;
             surveyed = c.is_ok-workspace.ensures.value ∙ ok;
-            claims = holds_claims v b w _ (search rules) (c.is_ok-workspace.ensures.value ∙ ok) references tree h;
+            block_check = holds_claims v b w _ (search rules) (c.is_ok-workspace.ensures.value ∙ ok) references tree h;
             calm = holds_calm v b _ kinds_now marked reached parents flags (sym c.deref-2.ensures.value) (search rules)
                 (search rules) (search rules) (search rules)
                 (volume_calm (base g at) b kinds_now marked reached parents flags found.calm);

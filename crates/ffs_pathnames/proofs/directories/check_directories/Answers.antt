@@ -45,7 +45,7 @@ loop-number-init g c =
       findings = findings_noted _ _ noted.leaves.lists;
       reads = λ b k.
           let made : g.I.Image.reads c.note_places.new.image ≤ g.I.Image.reads c.args.image.now + noted_directories_cost v b =
-          c.note_places.ensures.reads.each b (k.gives_bytes, k.claims, k.survey) in
+          c.note_places.ensures.reads.each b (k.gives_bytes, k.block_check, k.survey) in
           rw (as_many (lines_from (directory_lines (volume_of v b)) 2 (inodes_of v - 2))
           (lines_from (directory_lines (volume_of v b)) first.result (inodes_of v - first.result)) (skipped b k).1)
           (omega (arith, made, noted_all_within v b (v.ncg * v.ipg)));
@@ -54,7 +54,7 @@ loop-number-init g c =
           (flags_kept c.args.workspace.now c.note_places.new.workspace noted.leaves.lists) checks;
       looks = λ b k checks.
           let made : g.I.Image.reads c.note_places.new.image ≤ g.I.Image.reads c.args.image.now + noted_directories_cost v b =
-          c.note_places.ensures.reads.each b (k.gives_bytes, k.claims, k.survey) in
+          c.note_places.ensures.reads.each b (k.gives_bytes, k.block_check, k.survey) in
           let below : first.result < inodes_of v = omega (arith, first.ensures.range.1, c.inodes-count.ensures) in
           let places = places_noted v b c.args.workspace.now first.result checks below
           (first.ensures.found (omega (arith, below, c.inodes-count.ensures))) in
@@ -67,8 +67,8 @@ loop-number-init g c =
       paid = paid_none (omega (arith, noted.reads.most, c.sweep_reads.ensures));
       before = λ b k. record {
         before = noted_before v _ _ _ _ first.result b first.ensures.range.0 refl noted.leaves.lists noted.leaves.ready.ready.made
-            (noted.places b (k.gives_bytes, k.claims, k.survey)).survey noted.leaves.none_due (skipped b k).0;
-        noted = (noted.places b (k.gives_bytes, k.claims, k.survey)).noted;
+            (noted.places b (k.gives_bytes, k.block_check, k.survey)).survey noted.leaves.none_due (skipped b k).0;
+        noted = (noted.places b (k.gives_bytes, k.block_check, k.survey)).noted;
       };
       said = of_same {rest = all} (of_begins {all = all}) (λ b k. (skipped b k).1);
     }
@@ -127,7 +127,7 @@ returns-then-first-count-clause-tree g c =
       looks = λ b k checks. omega arith;
       paid = paid_none (omega arith);
       image = refl;
-      holds = λ b k. (k.claims, k.survey);
+      holds = λ b k. (k.block_check, k.survey);
       findings = findings_kept _;
       ready = c.requires;
     }
@@ -141,13 +141,13 @@ returns-in_err-note_places-clause-tree g c =
       text = of_reads of_begins;
       reads = λ b k.
           let within = noted_all_within v b (v.ncg * v.ipg) in
-          omega (arith, noted.reads.each b (k.gives_bytes, k.claims, k.survey), within);
+          omega (arith, noted.reads.each b (k.gives_bytes, k.block_check, k.survey), within);
       looks = λ b k checks.
           let first = c.first_to_check-first in
           let below : first.result < inodes_of v = omega (arith, first.ensures.range.1, c.inodes-count.ensures) in
           let places = places_noted v b c.args.workspace.now first.result checks below
           (first.ensures.found (omega (arith, below, c.inodes-count.ensures))) in
-          omega (arith, noted.reads.each b (k.gives_bytes, k.claims, k.survey), places);
+          omega (arith, noted.reads.each b (k.gives_bytes, k.block_check, k.survey), places);
       paid = paid_failed (omega (arith, noted.reads.most));
       image = noted.leaves.read;
       holds = tt;
@@ -203,7 +203,7 @@ returns-clause-tree g c =
           omega (arith, rise, inv.looks b k checks);
       paid = paid_within inv.paid (omega arith) (omega arith);
       image = inv.device;
-      holds = λ b k. let now = (inv.before b k).before in (now.claims, now.survey);
+      holds = λ b k. let now = (inv.before b k).before in (now.block_check, now.survey);
       findings = inv.findings;
       ready = inv.ready.ready;
     }

@@ -59,7 +59,7 @@ chunks-init g c =
     let m = passed_of c.args.workspace.now in
     let known = KnowsForRuns v (g.I.Image.device c.args.image.now) c.args.workspace.now x
     c.args.checking.now.reads_left in
-    let cut = λ (b : List ℕ) (k : known b). cut_here x.number c.args.geometry.now.sound c.noted_cut-cut.ensures k.0.0.claims in
+    let cut = λ (b : List ℕ) (k : known b). cut_here x.number c.args.geometry.now.sound c.noted_cut-cut.ensures k.0.0.block_check in
     let seen = λ (b : List ℕ) (k : known b). all_read v b x.number x.inode c.noted_cut-cut.result (rest b c.start-chunks.result)
     c.args.geometry.now.sound k.0.0.dir k.0.1 (cut b k) (c.start-chunks.ensures.begins.chunks b) in
     let lines = λ (b : List ℕ) (k : known b).

@@ -56,7 +56,7 @@ returns g c =
             marked = refl;
             parents = refl;
             count = c.as_slice.ensures.len ∙ made.kinds;
-          }) (claims_left v b before here kept k.claims) (survey_left v b before here kept k.survey) in
+          }) (claims_left v b before here kept k.block_check) (survey_left v b before here kept k.survey) in
           passes (volume_of v b) c.args.entry.now.dir (roled_value c.args.entry.now)
           (ap (λ (w : Workspace). w.flags.items) left.lists)
           (ap (λ (w : Workspace). (passed_of w).stamps) left.lists) (passed.after (volume_of v b) shows);

@@ -13,12 +13,12 @@ entries-preserved-in-Empty c =
     let dir = c.args.chunk.now.dir in
     let flags = c.args.flags.now.items in
     let next = roled_on c.args.chunk.now.at_start c.role_of.result c.in-Some.ensures.steps c.role_of.ensures in
-    let other = λ (v : Volume). silent_roles v dir flags old c.role_of.result (entry_value c.in-Some.entry) c.in-Empty.is in
+    let other = λ (vol : Volume). silent_roles vol dir flags old c.role_of.result (entry_value c.in-Some.entry) c.in-Empty.is in
     record {
       words = inv.words;
-      quiet = λ v s. quiet_on v dir flags old c.entries.quiet next (rw (other v).0 (sym (and-true c.entries.quiet)))
-          (sym (other v).1) (inv.quiet v s);
-      stamps = λ v s. stamps_on v dir old next (sym (other v).1) (inv.stamps v s);
+      quiet = λ vol s. quiet_on vol dir flags old c.entries.quiet next (rw (other vol).0 (sym (and-true c.entries.quiet)))
+          (sym (other vol).1) (inv.quiet vol s);
+      stamps = λ vol s. stamps_on vol dir old next (sym (other vol).1) (inv.stamps vol s);
       sound = fills_on c.in-Some.ensures.steps ∙ inv.sound;
     }
 

@@ -12,10 +12,10 @@ invariant-entries l =
     let left = roled_to_come l.chunk.at_start l.entries in
     record {
       words : KeepsWords l.fn.words l.words;
-      quiet : (v : Volume) → Sees v l.inodes → are_quiet v dir l.flags.items (stamps_in l.inodes l.initial.words.items) all
-          ≡ (l.quiet && are_quiet v dir l.flags.items (stamps_in l.inodes l.words.items) left);
-      stamps : (v : Volume) → Sees v l.inodes → after_looks v dir (stamps_in l.inodes l.initial.words.items) all
-          ≡ after_looks v dir (stamps_in l.inodes l.words.items) left;
+      quiet : (vol : Volume) → Sees vol l.inodes → are_quiet vol dir l.flags.items (stamps_in l.inodes l.initial.words.items) all
+          ≡ (l.quiet && are_quiet vol dir l.flags.items (stamps_in l.inodes l.words.items) left);
+      stamps : (vol : Volume) → Sees vol l.inodes → after_looks vol dir (stamps_in l.inodes l.initial.words.items) all
+          ≡ after_looks vol dir (stamps_in l.inodes l.words.items) left;
       sound : fills_from l.entries.order l.entries.chunk.now l.entries.place ≡ is_sound l.fn.order l.chunk.bytes.now;
     }
 

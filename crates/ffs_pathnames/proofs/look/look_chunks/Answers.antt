@@ -109,7 +109,7 @@ returns g c =
         found = λ b k.
             let dir = dir_is v b x.number k.0.dir in
             let small = subst (λ i. i.size < 2 ^ 31) (sym k.1) (dir_size v (inode_of v b x.number) dir.1) in
-            let cut = cut_here x.number sound c.noted_cut-cut.ensures k.0.claims in
+            let cut = cut_here x.number sound c.noted_cut-cut.ensures k.0.block_check in
             let chunks = chunks_are v b x.number sound dir.0 k.1 cut in
             let t = k.0.gives_bytes in
             let now = ap (λ d. d.contents) inv.same ∙ t in
@@ -121,10 +121,10 @@ returns g c =
                 sound = all_sound c.chunks.sound none (inv.sound b t small) ∙ ap are_sound chunks;
                 started = sym (ap (find (λ e. e.offset == 0)) chunks) ∙ (inv.started b t small
                     ∙ ap (λ l. start_chunk l c.chunks.started v.order c.chunks.start) none);
-                quiet = all_quiet (volume_of v b) x.number w.flags.items _ c.chunks.quiet none (inv.quiet b t k.0.claims k.0.survey small)
+                quiet = all_quiet (volume_of v b) x.number w.flags.items _ c.chunks.quiet none (inv.quiet b t k.0.block_check k.0.survey small)
                     ∙ ap (are_quiet (volume_of v b) x.number w.flags.items (passed_of w).stamps) (seen_are v b x.number _ chunks);
               },
-              all_stamps (volume_of v b) x.number _ none (inv.stamps b t k.0.claims k.0.survey small)
+              all_stamps (volume_of v b) x.number _ none (inv.stamps b t k.0.block_check k.0.survey small)
                   ∙ ap (after_looks (volume_of v b) x.number (passed_of w).stamps) (seen_are v b x.number _ chunks),
             );
         leaves = record {
@@ -139,7 +139,7 @@ returns g c =
       };
       cost = λ b k.
           let t = k.0.gives_bytes in
-          let cut = cut_here x.number c.args.geometry.now.sound c.noted_cut-cut.ensures k.0.claims in
+          let cut = cut_here x.number c.args.geometry.now.sound c.noted_cut-cut.ensures k.0.block_check in
           let took = next.reads (inv.held b t) b (ap (λ d. d.contents) inv.same ∙ t) in
           let most = (gap.leaves.counted c.next.new.window took.held b
           (ap (λ d. d.contents) (read.read ∙ inv.same) ∙ t)).most in
@@ -170,7 +170,7 @@ returns-in_err-offset g c =
       };
       cost = λ b k.
           let t = k.0.gives_bytes in
-          let cut = cut_here x.number c.args.geometry.now.sound c.noted_cut-cut.ensures k.0.claims in
+          let cut = cut_here x.number c.args.geometry.now.sound c.noted_cut-cut.ensures k.0.block_check in
           let most = (c.next.ensures.reads (inv.held b t) b (ap (λ d. d.contents) inv.same ∙ t)).most in
           omega (arith, most, inv.reads b t, runs_are v b x.number x.inode c.noted_cut-cut.result k.1 cut);
     })
@@ -200,7 +200,7 @@ returns-in_err-gap g c =
       };
       cost = λ b k.
           let t = k.0.gives_bytes in
-          let cut = cut_here x.number c.args.geometry.now.sound c.noted_cut-cut.ensures k.0.claims in
+          let cut = cut_here x.number c.args.geometry.now.sound c.noted_cut-cut.ensures k.0.block_check in
           let took = c.in_ok-offset.ensures.reads (inv.held b t) b (ap (λ d. d.contents) inv.same ∙ t) in
           let most = (c.gap_of.ensures.leaves.counted c.next.new.window took.held b
           (ap (λ d. d.contents) (read.read ∙ inv.same) ∙ t)).most in

@@ -16,7 +16,7 @@ known g c b k =
     let read = c.in_ok-inode.ensures.inode.reads in (
       record {
         gives_bytes = ap (λ d. d.contents) read.read ∙ k.gives_bytes;
-        claims = claims_held _ b _ _ refl k.claims;
+        block_check = claims_held _ b _ _ refl k.block_check;
         survey = survey_held _ b _ _ refl k.survey;
         noted = k.noted;
         dir = k.dir;

@@ -26,7 +26,7 @@ pub returns-then-is_silent-clause-lines : goal.returns-then-is_silent-clause-lin
 returns-then-is_silent-clause-lines g c = record {
   text = says_none (λ b k. ap (map of_tree) (ap (plain_lines (volume_of c.args.geometry.now.layout b) c.args.entry.now.dir
       (entry_value c.args.entry.now.entry)) (sym (c.verdict_of-verdict.ensures.verdict c.args.geometry.now.layout b
-      c.requires.ready.ready.ready.made k.knows.claims k.knows.survey))
+      c.requires.ready.ready.ready.made k.knows.block_check k.knows.survey))
       ∙ silent_lines c.verdict_of-verdict.result _ _ _ _ (sym c.is_silent.ensures ∙ c.if-is_silent.true)));
   path = λ b k. k.path;
   settled = λ settled. settled;

@@ -39,7 +39,7 @@ lines_are g c b goes h q = search (arith, tree_is, kind_is, root_marked_is)
 goes : (g : Over) (c : After-report_root g) (b : List ℕ) →
     KnowsBefore c.args.geometry.now.layout (g.I.Image.device c.args.image.now).contents c.args.workspace.now 2 b →
     is_dir_kind c.index-kind.result.now ≡ continues_after_root (volume_of c.args.geometry.now.layout b)
-goes g c b k = goes_is c.args.geometry.now.layout b c.args.workspace.now _ (kind_is g c) k.claims
+goes g c b k = goes_is c.args.geometry.now.layout b c.args.workspace.now _ (kind_is g c) k.block_check
 
 -- a read failed where the run continues
 read_where_goes : {v : Layout} (d : Device) {w : Workspace} (fault : RunFault) →
@@ -83,13 +83,13 @@ returns-in_err-report_root-clause-tree g c =
     let at = (goal.at.returns-in_err-report_root-clause-tree g c).After-report_root in
     let p = err_from_is_err_and c.from_residual.result c.from_residual.ensures.1 in
     rw (p.1, p.2) (only_said _ refl c.requires (of_stops _ _ _ _ _ _ _ _ of_begins
-    (λ b k. lines_are g at b _ k.claims refl) c.in_err-report_root.ensures))
+    (λ b k. lines_are g at b _ k.block_check refl) c.in_err-report_root.ensures))
 
 pub returns-in-Stop-clause-tree : goal.returns-in-Stop-clause-tree
 returns-in-Stop-clause-tree g c =
     let at = (goal.at.returns-in-Stop-clause-tree g c).After-report_root in
     only_said _ refl c.requires (of_says {rest' = λ b. []} of_begins
-    (λ b k. lines_are g at b false k.claims c.in-Stop.ensures) c.in_ok-report_root.ensures)
+    (λ b k. lines_are g at b false k.block_check c.in-Stop.ensures) c.in_ok-report_root.ensures)
 
 pub returns-in_err-check_directories-in-Go-clause-tree : goal.returns-in_err-check_directories-in-Go-clause-tree
 returns-in_err-check_directories-in-Go-clause-tree g c =
@@ -101,10 +101,10 @@ returns-in_err-check_directories-in-Go-clause-tree g c =
     rw (p.1, p.2) (record {
       text = of_fault (Unit {0}) (Unit {0}) _ _ _ (λ b. []) _ _ _ _ fault
           (of_says of_begins
-          (λ b k. lines_are g at.After-report_root b true k.claims c.in-Go.ensures) c.in_ok-report_root.ensures)
+          (λ b k. lines_are g at.After-report_root b true k.block_check c.in-Go.ensures) c.in_ok-report_root.ensures)
           (λ b k. sym (append-nil _)) tree.text;
-      reads = λ b k. few_more _ _ _ _ _ _ (lines_are g at.After-report_root b true k.claims c.in-Go.ensures) (tree.reads b k);
-      looks = λ b k checks. few_more _ _ _ _ _ _ (lines_are g at.After-report_root b true k.claims c.in-Go.ensures)
+      reads = λ b k. few_more _ _ _ _ _ _ (lines_are g at.After-report_root b true k.block_check c.in-Go.ensures) (tree.reads b k);
+      looks = λ b k checks. few_more _ _ _ _ _ _ (lines_are g at.After-report_root b true k.block_check c.in-Go.ensures)
           (tree.looks b k checks);
       paid = paid_fault fault
           (paid_then (paid_said _ c.in_ok-report_root.ensures (omega arith)) tree.paid);
@@ -121,10 +121,10 @@ returns-in_ok-check_directories-in-Go-clause-tree g c =
     record {
       text = of_part {rest' = λ b. []}
           (of_says of_begins
-          (λ b k. lines_are g at.After-report_root b true k.claims c.in-Go.ensures) c.in_ok-report_root.ensures)
+          (λ b k. lines_are g at.After-report_root b true k.block_check c.in-Go.ensures) c.in_ok-report_root.ensures)
           (λ b k. sym (append-nil _)) tree.text;
-      reads = λ b k. few_more _ _ _ _ _ _ (lines_are g at.After-report_root b true k.claims c.in-Go.ensures) (tree.reads b k);
-      looks = λ b k checks. few_more _ _ _ _ _ _ (lines_are g at.After-report_root b true k.claims c.in-Go.ensures)
+      reads = λ b k. few_more _ _ _ _ _ _ (lines_are g at.After-report_root b true k.block_check c.in-Go.ensures) (tree.reads b k);
+      looks = λ b k checks. few_more _ _ _ _ _ _ (lines_are g at.After-report_root b true k.block_check c.in-Go.ensures)
           (tree.looks b k checks);
       paid = paid_answer
           (paid_then (paid_said _ c.in_ok-report_root.ensures (omega arith)) tree.paid);
@@ -154,7 +154,7 @@ returns-in-Stop-clause-stop g c = λ _.
     record {
       last = one.line;
       stops = one.stops;
-      right = λ b k. sym one.alone ∙ sym (append-nil _) ∙ sym (lines_are g at b false k.claims c.in-Stop.ensures);
+      right = λ b k. sym one.alone ∙ sym (append-nil _) ∙ sym (lines_are g at b false k.block_check c.in-Stop.ensures);
       said = rw one.alone at c.in_ok-report_root.ensures;
     }
 

@@ -30,7 +30,7 @@ before_tree g c b k =
     let v = c.args.geometry.now.layout in
     let found = c.in_ok-survey.ensures in
     let clear = c.clear_passed_and_windows.ensures in
-    let claims = (found.survey b k).claims in
+    let claims = (found.survey b k).block_check in
     before_first v _ b _ _ (ap (λ d. d.contents) found.leaves.read ∙ k.0) claims (found.survey b k).survey
     (clear.ready v _ found.leaves.ready).ready.made clear
     (calm_silent v b _ c.args.geometry.now.sound found.leaves.ready.made claims (found.survey b k).survey
@@ -43,7 +43,7 @@ claims_after : (g : Over) (c : After-check_tree g) (b : List ℕ) →
 claims_after g c b k =
     let v = c.args.geometry.now.layout in
     let clear = c.clear_passed_and_windows.ensures in
-    let cleared = claims_left v b _ _ clear.survey (c.in_ok-survey.ensures.survey b k).claims in
+    let cleared = claims_left v b _ _ clear.survey (c.in_ok-survey.ensures.survey b k).block_check in
     findings_claims v b _ _ c.check_tree.ensures.tree.findings cleared
 
 -- the phase ends as the check of the tree does
@@ -59,7 +59,7 @@ ends_by v d d' old w new before after (Ok root) more references claims answer ho
     found : ForBytes (WithBlockCheck v d old) (λ b. HoldsFindings v b new)
     found b k =
         let left = holds b (more b k) in
-        record { claims = left.0; survey = left.1; references = references b k }
+        record { block_check = left.0; survey = left.1; references = references b k }
 
     ends : (root : Root) → AnswersRoot v d' w (Ok root) → (is_go root ≡ false → SaidStop (WithBlockCheck v d old)
         (phase2 ∷ []) (λ b. phase2 ∷ map of_tree (pathname_lines (volume_of v b))) before after) →
@@ -228,7 +228,7 @@ returns-clause-reads g c = record {
   looked_at = λ first b k.
       let before = before_tree g (goal.at.returns-clause-reads g c).After-check_tree b k in
       let v = c.args.geometry.now.layout in
-      let claims = (c.in_ok-survey.ensures.survey b k).claims in
+      let claims = (c.in_ok-survey.ensures.survey b k).block_check in
       let flags = c.in_ok-survey.ensures.flags first b k in
       let checks = looked_at_first v b c.survey.new.workspace c.clear_passed_and_windows.new.workspace claims flags
       c.clear_passed_and_windows.ensures in
@@ -240,7 +240,7 @@ returns-clause-reads g c = record {
   stopped = λ b k ends.
       let before = before_tree g (goal.at.returns-clause-reads g c).After-check_tree b k in
       let v = c.args.geometry.now.layout in
-      let other = goes_is v b c.clear_passed_and_windows.new.workspace _ refl before.claims ∙ ends in
+      let other = goes_is v b c.clear_passed_and_windows.new.workspace _ refl before.block_check ∙ ends in
       let unread = c.check_tree.ensures.unread other in
       omega (arith, c.survey.ensures.reads.each b k, unread);
 }

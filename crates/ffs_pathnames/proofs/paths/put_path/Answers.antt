@@ -20,7 +20,7 @@ returns-clause-puts g c =
     let below = gathered c.new-limited.ensures.device c.new-limited.ensures.asked refl
     c.put_path-result.ensures.costs.leaves c.is_spent.ensures.below in
     rw (c.image-2-1.given.1 below.same_image ∙ c.drop-limited-2.ensures.below) (record {
-      path = on_ok c.put_path-result.result _ _ (λ p x b k. p b k.gives_bytes k.claims k.survey)
+      path = on_ok c.put_path-result.result _ _ (λ p x b k. p b k.gives_bytes k.block_check k.survey)
           (rw (ap (λ (d : Device). d.contents) c.new-limited.ensures.device) at c.put_path-result.ensures.path);
       leaves = below.leaves c.if-is_spent.false;
     })

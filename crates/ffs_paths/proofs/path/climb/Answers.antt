@@ -73,7 +73,7 @@ up-preserved g c =
       counted = λ b knows.
           let t = ap (λ d. d.contents) i.reads.read ∙ knows.gives_bytes in
           let l = reached-level _ c.args.dir (sym (knows.survey.tree.reached c.args.dir) ∙ c.requires.reached) in
-          let way = i.path b knows.gives_bytes knows.claims knows.survey l.0 l.1 in
+          let way = i.path b knows.gives_bytes knows.block_check knows.survey l.0 l.1 in
           let noted = noted_here way.left c.up.at knows i.reads.lists way.level (omega arith) in
           climb_more c.as_slice.result.now (i.counted b knows) c.if-path.false (found.leaves.counted b t noted).few
           (subst (λ name. 0 < length name) (sym c.as_slice.ensures.value) (found.finds.some b t noted)) c.push_front.ensures;
@@ -94,7 +94,7 @@ returns-in_err-find_name-clause-leaves g c =
       reads = grind (arith, reads_then);
       counted = λ b knows.
           let l = reached-level _ c.args.dir (sym (knows.survey.tree.reached c.args.dir) ∙ c.requires.reached) in
-          let way = i.path b knows.gives_bytes knows.claims knows.survey l.0 l.1 in
+          let way = i.path b knows.gives_bytes knows.block_check knows.survey l.0 l.1 in
           let h = i.counted b knows in
           few_more (few_then h.few
           (c.in_err-find_name.ensures.leaves.counted b (ap (λ d. d.contents) i.reads.read ∙ knows.gives_bytes)
@@ -102,7 +102,7 @@ returns-in_err-find_name-clause-leaves g c =
           (short_way h c.if-path.false);
       names = λ b knows.
           let l = reached-level _ c.args.dir (sym (knows.survey.tree.reached c.args.dir) ∙ c.requires.reached) in
-          let way = i.path b knows.gives_bytes knows.claims knows.survey l.0 l.1 in
+          let way = i.path b knows.gives_bytes knows.block_check knows.survey l.0 l.1 in
           let one = (c.in_err-find_name.ensures.leaves.counted b (ap (λ d. d.contents) i.reads.read ∙ knows.gives_bytes)
           (noted_here way.left c.up.at knows i.reads.lists way.level (omega arith))).few in
           let above = below_root _ way.left c.up.at way.level (omega arith) in

@@ -6,16 +6,19 @@ use Rattle.ffs_walk.proofs.{Splices.keeps_then, WalkSteps.top_ends}
 use Rattle.ffs_walk.proofs.kept_runs.KeptRuns.next.Goals as goal
 
 pub returns-then-not-is_replay_open : goal.returns-then-not-is_replay_open
-returns-then-not-is_replay_open g c = record {
-  run = record {
-    runs = λ bytes t. closed_runs _ _ _ _ (sym c.is_replay_open.ensures ∙ c.if-not-is_replay_open.true);
-    falls = tt;
-  };
-  over = tt;
-  geometry = refl;
-  leaves = record { kept = record { size = refl; holds = c.requires.holds }; read = refl };
-  counted = λ h. record { most = omega arith; paid = omega arith; held = h };
-}
+returns-then-not-is_replay_open g c =
+    let shut = sym c.is_replay_open.ensures ∙ c.if-not-is_replay_open.true in record {
+      run = record {
+        runs = λ bytes t. closed_runs _ _ _ _ shut;
+        falls = tt;
+        over = λ none bytes. closed_runs _ _ _ _ shut;
+      };
+      over = tt;
+      geometry = refl;
+      leaves = record { kept = record { size = refl; holds = c.requires.holds }; read = refl };
+      counted = λ h. record { most = omega arith; paid = omega arith; held = h };
+      any = omega arith;
+    }
 
 pub next-requires : goal.next-requires
 next-requires g c = let inv = c.loop-step.invariant in rw (inv.geometry, inv.image) (record {
@@ -43,6 +46,7 @@ returns-in_err-step g c =
         paid = tt;
         held = tt;
       };
+      any = omega (arith, did.any, inv.any);
     })
 
 pub returns-in-Run : goal.returns-in-Run
@@ -63,6 +67,7 @@ returns-in-Run g c =
             (ap (λ k. k.layout) same) (next bytes t) going (took.count v c.in-Run.start c.in_range-in_range.ensures)
             replays.after took.cut;
         falls = omega (arith, inv.falls, rw c.in-Some.is at did.step.falls);
+        over = λ none. grind (arith, none);
       };
       over = tt;
       geometry = same ∙ inv.geometry;
@@ -76,6 +81,7 @@ returns-in-Run g c =
             paid = omega (arith, reads.paid, inv.paid h);
             held = reads.held;
           };
+      any = omega (arith, did.any, inv.any);
     }
 
 pub loop-step-preserved-in-Gap : goal.loop-step-preserved-in-Gap
@@ -96,6 +102,7 @@ loop-step-preserved-in-Gap g c =
           (ap (λ k. k.layout) (skip.same.geometry ∙ same)) (next bytes t)
           (skip.steps _ (rw same kept.holds) bytes (ap (λ d. d.contents) image ∙ t));
       falls = omega (arith, inv.falls, rw c.in-Some.is at did.step.falls, skip.falls);
+      any = omega (arith, inv.any, did.any, rw c.in-Some.is at did.step.falls, skip.falls);
       held = λ h. skip.counted.held _ (did.counted (inv.held h)).held;
       paid = λ h. omega (
         arith,
@@ -119,6 +126,7 @@ loop-step-preserved g c =
       blocks = rw image at (keeps_then (ap (λ k. k.layout) inv.geometry) inv.blocks kept);
       left = λ bytes t. inv.left bytes t ∙ tail_left _ _ _ _ _ _ (ap (λ k. k.layout) did.same.geometry) (next bytes t);
       falls = omega (arith, inv.falls, rw c.in-Some.is at did.step.falls);
+      any = omega (arith, inv.any, did.any, rw c.in-Some.is at did.step.falls);
       held = λ h. (did.counted (inv.held h)).held;
       paid = λ h. omega (arith, inv.paid h, rw (c.in-Some.is, c.in-Tail.is) at (did.counted (inv.held h)).paid);
     }
@@ -129,8 +137,14 @@ returns g c =
     let did = c.in_ok-step.ensures in
     let image = did.leaves.read ∙ inv.image in
     let over = rw (inv.image, c.in_default.is) at did.step.steps in
+    let left = did.step.over c.in_default.is in
     record {
-      run = record { runs = λ bytes t. inv.left bytes t ∙ none_left _ _ _ _ (over bytes t); falls = tt };
+      run = record {
+        runs = λ bytes t. inv.left bytes t ∙ none_left _ _ _ _ (over bytes t);
+        falls = tt;
+        over = λ none bytes. none_left _ _ _ _ (top_ends bytes c.next.new.self (omega (arith, left.top)) left.single
+            left.double left.triple);
+      };
       over = tt;
       geometry = did.same.geometry ∙ inv.geometry;
       leaves = record {
@@ -143,4 +157,5 @@ returns g c =
             paid = omega (arith, reads.paid, inv.paid h);
             held = reads.held;
           };
+      any = omega (arith, did.any, inv.any);
     }

@@ -15,6 +15,8 @@ invariant-loop-step g l =
       left : ForContents d.contents (λ bytes. kept_runs_left bytes begun ≡ kept_runs_left bytes l.self);
       falls : most_steps_left l.self.walk ≤ most_steps_left begun.walk;
       held : AreHeld l.initial.blocks begun.walk → AreHeld l.blocks l.self.walk;
+      any : g.I.Image.reads l.image + most_steps_left l.self.walk
+          ≤ g.I.Image.reads l.initial.image + most_steps_left begun.walk;
       paid : AreHeld l.initial.blocks begun.walk → g.I.Image.reads l.image + unread l.self.walk
           ≤ g.I.Image.reads l.initial.image + unread begun.walk;
     }
