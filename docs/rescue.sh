@@ -225,6 +225,12 @@ of_listing='
     $1 ~ /^[d-]\/d/ && !deep($2) { read[inode($1)] }
     END { if (more) for (i in read) print "read\t-\t" i "\t-" }'
 
+# listed WORDS..: the whole lines that fls prints by these words, and `fault` after them where it fails, also where it is killed within a line
+listed() {
+    { fls "$@" || printf '\nfault\n'; } |
+        awk '$0 == "fault" { print; held = ""; next } held != "" { print held } { held = $0 } END { if (held != "") print held }'
+}
+
 newline='
 '
 # next_of: takes the first line off `todo`, as i and path. It fails where i was done already, or is below such a one
@@ -251,7 +257,7 @@ list_names() (
         next_of || continue
         [ ! "$how" ] || { printf '%s\n' "$path"; fls -r -m / -f ufs1 "$image" ${i:+"$i"}; } |
             awk 'NR == 1 { before = $0; next } { print substr($0, 1, 3) before substr($0, 4) }'
-        left=$({ printf '\t%s\n' "$path"; fls -r -p -f ufs1 "$image" ${i:+"$i"} || echo fault; } | awk -F "$tab" -v how="$how" 'NR == 1 { before = $2; next }'"$of_listing"'
+        left=$({ printf '\t%s\n' "$path"; listed -r -p -f ufs1 "$image" ${i:+"$i"}; } | awk -F "$tab" -v how="$how" 'NR == 1 { before = $2; next }'"$of_listing"'
             { is_unread = unread($1, $2); $2 = before $2 } !how { print $1 "\t" $2 | "cat >&3" } is_unread { tell($1, "-") }')
         is_whole || complain "list_names: the list of what is in /$path isn't whole" || status=1
         [ -z "$left" ] || todo=$(printf '%s\n' "$left" | awk -F "$tab" '$1 == "D" { print $3 "\t" $4 "/" }')$newline$todo
@@ -266,7 +272,7 @@ recovered() (
     todo="${3-}$tab$2"
     while [ "$todo" ]; do
         next_of || continue
-        left=$({ fls -r -u -p -f ufs1 "$1" ${i:+"$i"} || echo fault; } | { sort -t "$tab" -k 2 || echo fault; } | awk -F "$tab" -v before=${#path} '
+        left=$(listed -r -u -p -f ufs1 "$1" ${i:+"$i"} | { sort -t "$tab" -k 2 || echo fault; } | awk -F "$tab" -v before=${#path} '
             ("/" $2 "/") ~ "/[.][.]/" { print "away\t-\t-\t" $2 }'"$of_listing"'
             $2 == same && inode($1) != inode(held) { if (!told) tell(held, "="); tell($1, "="); told = 1; next }
             { same = $2; held = $1; if (told = unread($1, $2) || $1 ~ /^d\/r/) tell($1, length($2) + before > 2000 ? "=" : "-") }')
