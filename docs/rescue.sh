@@ -127,7 +127,8 @@ all_used() (
 
 # faults IMAGE TYPE..: what keeps the tools from reading inodes of these types to their end, a line each: the byte and width of a field, the
 # number by which it can be read, and why. It is a size that is more than the addresses hold (of a file, by 1 MiB), or than the volume, or an
-# address outside of it; of a directory also a word outside of it. The words of a file stay, since their block may be another file's
+# address outside of it; of a directory also a word outside of it, or a size that isn't whole chunks of 512 bytes. The words of a file stay,
+# since their block may be another file's
 faults() {
     [ "${order-}" ] || return 0
     by_superblock "$1" 2>/dev/null | perl -e '($order, $bsize, $fsize, $name, @types) = @ARGV;
@@ -169,6 +170,7 @@ faults() {
                     $most = $held if $last < 12 && $held < $most && $held > $most - $bsize;
                 }
                 $most = $size if $size < $most || $type == 0100000 && $size < $most + (1 << 20);
+                $most += -$most % 512 if $type == 040000;
                 $most = 0 if $most > $bytes;
                 if ($type == 040000) {
                     for (12 .. 14) {
