@@ -40,6 +40,8 @@
 #   zeros B                  makes the indirect block at fragment B of further.img zeros, where it is one of one file alone
 #   refill B                 the same, and names the blocks of the file list in it, a line each, in its order
 
+# In zsh the name `path` is that of its search path
+[ -z "${ZSH_VERSION-}" ] || { echo "rescue.sh: it is for sh and bash, and this is zsh: start one of them first" >&2; return 1; }
 set -u
 
 complain() {
