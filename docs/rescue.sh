@@ -252,7 +252,9 @@ is_whole() {
 }
 
 list_names() (
-    LC_ALL=C how='' tab=$(printf '\t') done=" " left='' status=0
+    # shellcheck disable=SC2030,SC2031
+    export LC_ALL=C
+    how='' tab=$(printf '\t') done=" " left='' status=0
     [ "$1" != -m ] || { how="-m"; shift; }
     image=$(bounded "$1" 40000) || exit 1
     todo="${2-}$tab"
@@ -272,7 +274,9 @@ list_names() (
 
 # recovered IMAGE PLACE [I]: as recover, of an image where no size is too large
 recovered() (
-    LC_ALL=C tab=$(printf '\t') done=" " left='' status=0
+    # shellcheck disable=SC2030,SC2031
+    export LC_ALL=C
+    tab=$(printf '\t') done=" " left='' status=0
     todo="${3-}$tab$2"
     while [ "$todo" ]; do
         next_of || continue
