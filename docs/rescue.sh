@@ -40,6 +40,8 @@
 #   zeros B                  makes the indirect block at fragment B of further.img zeros, where it is one of one file alone
 #   refill B                 the same, and names the blocks of the file list in it, a line each, in its order
 
+# In zsh the name `path` is that of its search path
+[ -z "${ZSH_VERSION-}" ] || { echo "rescue.sh: it is for sh and bash, and this is zsh: start one of them first" >&2; return 1; }
 set -u
 
 complain() {
@@ -127,7 +129,8 @@ all_used() (
 
 # faults IMAGE TYPE..: what keeps the tools from reading inodes of these types to their end, a line each: the byte and width of a field, the
 # number by which it can be read, and why. It is a size that is more than the addresses hold (of a file, by 1 MiB), or than the volume, or an
-# address outside of it; of a directory also a word outside of it. The words of a file stay, since their block may be another file's
+# address outside of it; of a directory also a word outside of it, or a size that isn't whole chunks of 512 bytes. The words of a file stay,
+# since their block may be another file's
 faults() {
     [ "${order-}" ] || return 0
     by_superblock "$1" 2>/dev/null | perl -e '($order, $bsize, $fsize, $name, @types) = @ARGV;
@@ -169,6 +172,7 @@ faults() {
                     $most = $held if $last < 12 && $held < $most && $held > $most - $bsize;
                 }
                 $most = $size if $size < $most || $type == 0100000 && $size < $most + (1 << 20);
+                $most += -$most % 512 if $type == 040000;
                 $most = 0 if $most > $bytes;
                 if ($type == 040000) {
                     for (12 .. 14) {
@@ -225,6 +229,12 @@ of_listing='
     $1 ~ /^[d-]\/d/ && !deep($2) { read[inode($1)] }
     END { if (more) for (i in read) print "read\t-\t" i "\t-" }'
 
+# listed WORDS..: the whole lines that fls prints by these words, and `fault` after them where it fails, also where it is killed within a line
+listed() {
+    { fls "$@" || printf '\nfault\n'; } |
+        awk '$0 == "fault" { print; held = ""; next } held != "" { print held } { held = $0 } END { if (held != "") print held }'
+}
+
 newline='
 '
 # next_of: takes the first line off `todo`, as i and path. It fails where i was done already, or is below such a one
@@ -242,7 +252,9 @@ is_whole() {
 }
 
 list_names() (
-    LC_ALL=C how='' tab=$(printf '\t') done=" " left='' status=0
+    # shellcheck disable=SC2030,SC2031
+    export LC_ALL=C
+    how='' tab=$(printf '\t') done=" " left='' status=0
     [ "$1" != -m ] || { how="-m"; shift; }
     image=$(bounded "$1" 40000) || exit 1
     todo="${2-}$tab"
@@ -251,7 +263,7 @@ list_names() (
         next_of || continue
         [ ! "$how" ] || { printf '%s\n' "$path"; fls -r -m / -f ufs1 "$image" ${i:+"$i"}; } |
             awk 'NR == 1 { before = $0; next } { print substr($0, 1, 3) before substr($0, 4) }'
-        left=$({ printf '\t%s\n' "$path"; fls -r -p -f ufs1 "$image" ${i:+"$i"} || echo fault; } | awk -F "$tab" -v how="$how" 'NR == 1 { before = $2; next }'"$of_listing"'
+        left=$({ printf '\t%s\n' "$path"; listed -r -p -f ufs1 "$image" ${i:+"$i"}; } | awk -F "$tab" -v how="$how" 'NR == 1 { before = $2; next }'"$of_listing"'
             { is_unread = unread($1, $2); $2 = before $2 } !how { print $1 "\t" $2 | "cat >&3" } is_unread { tell($1, "-") }')
         is_whole || complain "list_names: the list of what is in /$path isn't whole" || status=1
         [ -z "$left" ] || todo=$(printf '%s\n' "$left" | awk -F "$tab" '$1 == "D" { print $3 "\t" $4 "/" }')$newline$todo
@@ -262,11 +274,13 @@ list_names() (
 
 # recovered IMAGE PLACE [I]: as recover, of an image where no size is too large
 recovered() (
-    LC_ALL=C tab=$(printf '\t') done=" " left='' status=0
+    # shellcheck disable=SC2030,SC2031
+    export LC_ALL=C
+    tab=$(printf '\t') done=" " left='' status=0
     todo="${3-}$tab$2"
     while [ "$todo" ]; do
         next_of || continue
-        left=$({ fls -r -u -p -f ufs1 "$1" ${i:+"$i"} || echo fault; } | { sort -t "$tab" -k 2 || echo fault; } | awk -F "$tab" -v before=${#path} '
+        left=$(listed -r -u -p -f ufs1 "$1" ${i:+"$i"} | { sort -t "$tab" -k 2 || echo fault; } | awk -F "$tab" -v before=${#path} '
             ("/" $2 "/") ~ "/[.][.]/" { print "away\t-\t-\t" $2 }'"$of_listing"'
             $2 == same && inode($1) != inode(held) { if (!told) tell(held, "="); tell($1, "="); told = 1; next }
             { same = $2; held = $1; if (told = unread($1, $2) || $1 ~ /^d\/r/) tell($1, length($2) + before > 2000 ? "=" : "-") }')

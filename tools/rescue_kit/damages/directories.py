@@ -94,6 +94,16 @@ def size_odd(case):
     mend_size(case, case.run("number-of", path=path).strip())
 
 
+@damage("a directory's size isn't whole chunks, and it isn't mended")
+def size_odd_left(case):
+    names = [path for path in case.tree if path not in sources.SHORT_LINKS]
+    case.volume.put_inode(case.volume.find("docs/names"), size=case.volume.inode(case.volume.find("docs/names"))["size"] - 100)
+    case.at_stake(*names)
+    case.report("DIRECTORY: LENGTH NOT MULTIPLE OF 512")
+    all_listed(case, [path for path in names if path != "mail/longer"])
+    case.run("all")
+
+
 @damage("a directory's address became 0")
 def hole(case):
     put_names(case, direct1=0)

@@ -90,6 +90,17 @@ def groups_overwritten(case):
     case.run("every")
 
 
+@damage("a cylinder group's block became zeros, and fls is killed within a line of its list")
+def list_killed(case):
+    case.volume.zero(case.volume.layout.group_place(0), case.volume.layout.bsize)
+    files_at_stake(case)
+    case.report("CG: BAD MAGIC NUMBER")
+    for recipe in ("names", "all"):
+        if "isn't whole" not in case.complaints(recipe, first='fls() { command fls "$@" | head -c 60; return 1; }\n'):
+            raise Wrong(f"the recipe {recipe} doesn't say that a list isn't whole")
+    case.run("every")
+
+
 @damage("a byte of an inode map became zeros")
 def inode_map_byte(case):
     volume = case.volume
