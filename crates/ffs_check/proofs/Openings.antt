@@ -122,14 +122,14 @@ opened name sector s old head new fresh said more =
     }
 
 -- a copy is read only where no sector is asked for
-pub super_read : (sector : Option ℕ) (found : Result Superblock SuperFault) {a b : ℕ} → b ≤ a + opening_reads →
+pub super_read : (sector : Option ℕ) (found : Result Superblock SuperFault) (a b : ℕ) → b ≤ a + opening_reads →
     (may_read_copy sector found ≡ false → b ≤ a + 1) → b ≤ a + super_reads sector
-super_read None found most once = most
-super_read (Some at) found most once = once refl
+super_read None found a b most once = most
+super_read (Some at) found a b most once = once refl
 
-pub super_few : (sector : Option ℕ) {a b : ℕ} → b ≤ a + super_reads sector → b ≤ a + opening_reads
-super_few None few = few
-super_few (Some at) few = omega (arith, few)
+pub super_few : (sector : Option ℕ) (a b : ℕ) → b ≤ a + super_reads sector → b ≤ a + opening_reads
+super_few None a b few = few
+super_few (Some at) a b few = omega (arith, few)
 
 -- the same of outputs by other names for them
 pub opens_at : {W : Type 0} (sink : W → Sink) (a a' b b' : W) {name : List ℕ} {sector : Option ℕ}

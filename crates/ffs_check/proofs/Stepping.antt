@@ -128,7 +128,7 @@ module _ (s : Superblock) where
                 e bytes known ∙ ap (λ (xs : List Message). xs ++ rest' bytes)
                 (sym (ran.text.right bytes (knows bytes known)))
                 ∙ append_assoc ran.text.messages (ran.text.rest bytes) (rest' bytes))
-                prefix.said;
+                ran.text.told;
             more = λ bytes k. more_after (ran.text.rest bytes) (rest' bytes) (more bytes (given at bytes k));
           };
           goes = tt;

@@ -52,10 +52,14 @@ stops_all {knows} {all} {ms} e p = record {
   told = p;
 }
 
--- a read failed before anything was printed
+-- a read failed after some lines, and before anything was printed
+pub reads_after : {knows : List ℕ → Type 0} {rest all : List ℕ → List (List ℕ)} {a b : Sink} →
+    PrintedTo knows rest all a b → FirstLines knows all (Took a b)
+reads_after {rest = rest} p = record { lines = p.lines; rest = rest; right = p.right; told = p.took }
+
 pub reads_first : {knows : List ℕ → Type 0} {all : List ℕ → List (List ℕ)} {a : Sink} →
     FirstLines knows all (Took a a)
-reads_first {knows} {all} {a} = record { lines = []; rest = all; right = λ bytes k. refl; told = took_nil a }
+reads_first {knows} {all} {a} = reads_after (begins knows all a)
 
 -- one line was printed, which is all
 pub one : {a b : Sink} {text : List ℕ} → Took a b text → Took a b (concat (text ∷ []))

@@ -14,6 +14,7 @@ use Rattle.ffs_finding.specs.{declared.request.Command.TheVariants.InVolume}
 use Rattle.ffs_finding.specs.Headline.{AnswersCommand, AnswersWith, FindsTarget, GroundsOf, IsAcceptedIn, IsGranted}
 use Rattle.ffs_finding.specs.Headline.{IsReadFor, IsRefusedBy, IsSectorFor, TakesForTarget, TakesMemory}
 use Rattle.ffs_finding.{specs.Headline.{PrintedAll, lines_by, target_lines}, proofs.Printing.{first_knowing, printed_knowing}}
+use Rattle.ffs_check.specs.Opening.{super_reads}
 
 -- memory was refused, where the answer says so
 refused : (target : Target) (v : Layout) (held held' : Account) → TakesForTarget target v held held' (Err NoMemory) →

@@ -12,6 +12,6 @@ returns-in-Ok-clause-finds g c =
     let read = same_super refl opened.answer in
     answered c.args.target c.args.sector (superblock_in super) d _ _ _
     (moment g.I.Image g.W.Output c.find_in_accepted.new.image c.find_in_accepted.new.out) _ _ _
-    (λ b k. sym (read.1 b k)) super.geometry.sound opened.inside_or_unreadable (super_read _ _ opened.reads opened.once)
+    (λ b k. sym (read.1 b k)) super.geometry.sound opened.inside_or_unreadable (super_read _ _ _ _ opened.reads opened.once)
     (rw (read.0) at c.find_in_accepted.ensures.answer)
     c.find_in_accepted.ensures.memory

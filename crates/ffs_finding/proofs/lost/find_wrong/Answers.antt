@@ -2,7 +2,7 @@ use Rattle.std.proofs.{Common.{◌∙◌, ◌+◌, ℕ, List, [], ◌++◌, ap, 
 use Rattle.ffs_maps.specs.Bits.{bits_of}
 use Rattle.ffs_groups.specs.Free.{free_in}
 use Rattle.ffs_report.proofs.Sinks.{took_nil}
-use Rattle.ffs_finding.proofs.{Printing.{prints_whether, stops}, LostGroups.{from_group, groups_begin, groups_end}}
+use Rattle.ffs_finding.proofs.{Printing.{prints_whether, reads_after, stops}, LostGroups.{from_group, groups_begin, groups_end}}
 use Rattle.ffs_finding.proofs.LostGroups.{groups_next}
 use Rattle.ffs_finding.proofs.lost.find_wrong.Goals as goal
 
@@ -22,6 +22,16 @@ loop-group-init g c =
         any_is = refl;
       };
     }
+
+pub returns-in_err-fill_group-clause-prints : goal.returns-in_err-fill_group-clause-prints
+returns-in_err-fill_group-clause-prints g c =
+    let inv = c.loop-group.invariant in
+    let fill = rw (inv.device) at c.in_err-fill_group.ensures.fills in
+    let p = err_from_is_err_and c.from_residual.result c.from_residual.ensures.1 in
+    rw (p.1, p.2) (record {
+      lines = record { found = record { image = fill.read; text = reads_after inv.printed.printed }; any = tt };
+      reads = omega (arith, inv.reads, fill.counted, c.loop-group-test.true);
+    })
 
 pub returns-in_err-found-clause-prints : goal.returns-in_err-found-clause-prints
 returns-in_err-found-clause-prints g c =

@@ -4,7 +4,7 @@ use Rattle.ffs_volume.specs.{Blocks.Steps.steps_of, Encodings.Replay.fresh_repla
 use Rattle.ffs_report.proofs.Sinks.{took_nil}
 use Rattle.ffs_walk.{proofs.Counted.{top_held, top_unread}, specs.KeptRuns.{indirect_in_run, kept_runs_left}}
 use Rattle.ffs_walk.proofs.ReplayedRuns.{indirect_most, runs_counted}
-use Rattle.ffs_finding.{specs.Keepers.{lines_of_runs, lines_of_run}, proofs.Printing.{prints, stops}}
+use Rattle.ffs_finding.{specs.Keepers.{lines_of_runs, lines_of_run}, proofs.Printing.{prints, reads_after, stops}}
 use Rattle.ffs_finding.proofs.{Replayed.{lines_next, lines_none, text_is}, Walking.{blocks_on, most_small}}
 use Rattle.ffs_finding.proofs.owner.find_kept_offers.Goals as goal
 
@@ -35,7 +35,7 @@ returns-in_err-run-clause-finds g c =
     rw (p.1, p.2) (record {
       found = record {
         image = rw inv.device at c.in_err-run.ensures.leaves.read;
-        text = record { lines = inv.printed.lines; rest = _; right = inv.printed.right; told = inv.printed.took };
+        text = reads_after inv.printed;
       };
       reads = λ b k. omega (arith, inv.paid b k, reads.most);
     })
