@@ -1,6 +1,6 @@
 -- The Runs of an inode that is walked over again, until it is cut.
 use Rattle.std.specs.Prelude.{◌≡◌, ◌+◌, ◌<◌, ◌≤◌, ℕ, if◌then◌else◌, List, [], ◌∷◌, ◌++◌, Option, Some, None}
-use Rattle.std.specs.Prelude.{IfSome, MatchOption, Result, IfOk, OnErr, OnOk}
+use Rattle.std.specs.Prelude.{◌⊎◌, false, IfSome, MatchOption, Ok, Result, IfOk, OnErr, OnOk}
 use Rattle.ffs_image.specs.{Device.ForContents, declared.image.ImageFault.ImageFault}
 use Rattle.ffs_volume.specs.declared.{Inode.Inode, Layout.Layout, Step.{Step, TheVariants.{Run, Gap, Tail}}}
 use Rattle.ffs_volume.specs.{Blocks.Steps.steps_of, Encodings.Replay.{Replay, fresh_replay, is_replay_open}}
@@ -8,7 +8,7 @@ use Rattle.ffs_volume.specs.Encodings.Replay.{replay_after_step}
 use Rattle.ffs_layout.specs.declared.geometry.Geometry.{Geometry}
 use Rattle.ffs_walk.specs.{declared.{blocks.Blocks.Blocks, kept_runs.{KeptRun.KeptRun, KeptRuns.KeptRuns}, walk.Walk.Walk}}
 use Rattle.ffs_walk.specs.{Counts.{AreHeld, unread}, Keepings.{replay_in, run_taken}, Windows.{BlocksAfter, ImageWith}}
-use Rattle.ffs_walk.specs.Rests.{IsAtTop, most_steps_left, steps_left}
+use Rattle.ffs_walk.specs.Rests.{IsAtTop, IsOver, most_steps_left, steps_left}
 
 -- the Run of a step, if it is seen
 abbrev pub step_run : Layout → (cut : ℕ) → Replay → Step → List KeptRun
@@ -44,13 +44,16 @@ abbrev pub indirect_given : Option KeptRun → ℕ
 indirect_given None = 0
 indirect_given (Some run) = indirect_in_run run
 
--- the next Run in an image of these contents is given, and the others are left; None comes after the last,
--- and none after it
+-- no Run comes any more: the inode is cut, or the walk is over
+abbrev pub IsDone : KeptRuns → Type 0
+IsDone k = (is_replay_open k.keeping.cut (replay_in k.keeping) ≡ false) ⊎ IsOver k.walk
+
+-- the next Run in an image of these contents is given, and the others are left; None comes after the last
 pub record IsNextRun (contents : Option (List ℕ)) (old new : KeptRuns) (answer : Option KeptRun) : Type 0 where
   pub runs : ForContents contents (λ bytes. MatchOption answer (kept_runs_left bytes old ≡ [])
       (λ run. kept_runs_left bytes old ≡ run ∷ kept_runs_left bytes new))
   pub falls : IfSome answer (λ _. most_steps_left new.walk < most_steps_left old.walk)
-  pub over : answer ≡ None → (bytes : List ℕ) → kept_runs_left bytes new ≡ []
+  pub done : answer ≡ None → IsDone new
 
 -- giving a Run reads only a block that was still to be read
 pub record RunReads (before after : ImageWith Blocks) (old new : Walk) (result : Result (Option KeptRun) ImageFault) :
@@ -59,12 +62,14 @@ pub record RunReads (before after : ImageWith Blocks) (old new : Walk) (result :
   pub paid : IfOk result (λ answer. after.reads + unread new ≤ before.reads + unread old + indirect_given answer)
   pub held : OnOk result (AreHeld after.cache new)
 
--- the next Run is given, or a read failed, after which none comes. Where the blocks that were read are held,
--- only one that was still to be read is read; in any case at most one for each step that is left, and one more
+-- the next Run is given, or a read failed. After that, and after None, none comes, and nothing is read. Where the
+-- blocks that were read are held, only one that was still to be read is read; in any case at most one for each
+-- step that is left, and one more
 pub record GivesRun (before after : ImageWith Blocks) (old new : KeptRuns) (result : Result (Option KeptRun) ImageFault)
     : Type 0 where
   pub run : IfOk result (IsNextRun before.image.contents old new)
-  pub over : OnErr result ((bytes : List ℕ) → kept_runs_left bytes new ≡ [])
+  pub over : OnErr result (IsDone new)
+  pub done : IsDone old → (result ≡ Ok None) × (after.reads ≡ before.reads)
   pub geometry : new.walk.geometry ≡ old.walk.geometry
   pub leaves : BlocksAfter old.walk.geometry.layout before after result
   pub counted : AreHeld before.cache old.walk → RunReads before after old.walk new.walk result

@@ -153,13 +153,15 @@ pub record GivesStep (contents : Option (List ℕ)) (old new : Walk) (result : R
 
 -- the next step of a walk is taken, or a read failed, which doesn't end the walk: what is given and
 -- what is left. Where the blocks that were read are held, only one that was still to be read is read; in
--- any case one at most, once
+-- any case one at most, once; and none where the next step is at one of the inode's own addresses: what is
+-- held stays
 pub record Advances (before after : ImageWith Blocks) (old new : Walk) (result : Result (Option Step) ImageFault) :
     Type 0 where
   pub gives : GivesStep before.image.contents old new result
   pub leaves : BlocksAfter old.geometry.layout before after result
   pub counted : AreHeld before.cache old → StepReads before after old new result
   pub any : after.reads ≤ before.reads + 1
+  pub top : IsAtTop old → (after.cache ≡ before.cache) × (after.reads ≡ before.reads)
   pub sector : FailsAt (block_place old) result
 
 -- the step at the next of the inode's own addresses is taken, whatever the image holds; where there
@@ -171,7 +173,8 @@ pub record IsTopStep (old new : Walk) (answer : Option Step) : Type 0 where
 
 -- the next step of a walk is taken, and the walk has the others left; it is over after a failed
 -- read. Where the blocks that were read are held, only one that was still to be read is read; in any case,
--- as where another walk has used the blocks, one at most, once
+-- as where another walk has used the blocks, one at most, once; and none where the next step is at one of
+-- the inode's own addresses, or none is left: what is held stays
 pub record TakesStep (before after : ImageWith Blocks) (old new : Walk) (result : Result (Option Step) ImageFault) :
     Type 0 where
   pub step : IfOk result (IsNextStep before.image.contents old new)
@@ -181,4 +184,5 @@ pub record TakesStep (before after : ImageWith Blocks) (old new : Walk) (result 
   pub leaves : BlocksAfter old.geometry.layout before after result
   pub counted : AreHeld before.cache old → StepReads before after old new result
   pub any : after.reads ≤ before.reads + 1
+  pub top : IsAtTop old → (after.cache ≡ before.cache) × (after.reads ≡ before.reads)
   pub sector : FailsAt (block_place old) result

@@ -1,8 +1,8 @@
-use Rattle.std.proofs.{Common.{◌≡◌, ◌∙◌, ap, arith, refl, sym, true}, lemmas.Result.err_from_is_err_and}
+use Rattle.std.proofs.{Common.{◌≡◌, ◌∙◌, ap, arith, inl, inr, refl, sym, true}, lemmas.Result.err_from_is_err_and}
 use Rattle.ffs_volume.specs.{Encodings.Replay.is_replay_open}
 use Rattle.ffs_walk.specs.{Keepings.replay_in}
 use Rattle.ffs_walk.proofs.ReplayedRuns.{closed_runs, gaps_left, none_left, run_left, tail_left}
-use Rattle.ffs_walk.proofs.{Splices.keeps_then, WalkSteps.top_ends}
+use Rattle.ffs_walk.proofs.Splices.{keeps_then}
 use Rattle.ffs_walk.proofs.kept_runs.KeptRuns.next.Goals as goal
 
 pub returns-then-not-is_replay_open : goal.returns-then-not-is_replay_open
@@ -11,9 +11,10 @@ returns-then-not-is_replay_open g c =
       run = record {
         runs = λ bytes t. closed_runs _ _ _ _ shut;
         falls = tt;
-        over = λ none bytes. closed_runs _ _ _ _ shut;
+        done = λ none. inl shut;
       };
       over = tt;
+      done = λ d. (refl, refl);
       geometry = refl;
       leaves = record { kept = record { size = refl; holds = c.requires.holds }; read = refl };
       counted = λ h. record { most = omega arith; paid = omega arith; held = h };
@@ -32,10 +33,14 @@ returns-in_err-step g c =
     let p = err_from_is_err_and c.from_residual.result c.from_residual.ensures.1 in
     let inv = c.loop-step.invariant in
     let did = c.in_err-step.ensures in
+    let going = sym c.is_replay_open.ensures ∙ c.if-not-is_replay_open.false in
     rw (p.1, p.2) (record {
       run = tt;
-      over = λ bytes. none_left _ _ _ _ (top_ends bytes c.next.new.self (omega (arith, did.fault.top)) did.fault.single
-          did.fault.double did.fault.triple);
+      over = inr did.fault;
+      done = λ d. elim d [
+        | inl shut ↦ grind (arith, shut, going)
+        | inr over ↦ grind (arith, did.over (inv.over over).0)
+      ];
       geometry = did.same.geometry ∙ inv.geometry;
       leaves = record {
         kept = keeps_then (ap (λ k. k.layout) inv.geometry) inv.blocks did.leaves.kept;
@@ -67,9 +72,13 @@ returns-in-Run g c =
             (ap (λ k. k.layout) same) (next bytes t) going (took.count v c.in-Run.start c.in_range-in_range.ensures)
             replays.after took.cut;
         falls = omega (arith, inv.falls, rw c.in-Some.is at did.step.falls);
-        over = λ none. grind (arith, none);
+        done = λ none. grind (arith, none);
       };
       over = tt;
+      done = λ d. elim d [
+        | inl shut ↦ grind (arith, shut, sym c.is_replay_open.ensures ∙ c.if-not-is_replay_open.false)
+        | inr over ↦ grind (arith, did.over (inv.over over).0, c.in-Some.is)
+      ];
       geometry = same ∙ inv.geometry;
       leaves = record {
         kept = keeps_then (ap (λ k. k.layout) inv.geometry) inv.blocks did.leaves.kept;
@@ -102,6 +111,7 @@ loop-step-preserved-in-Gap g c =
           (ap (λ k. k.layout) (skip.same.geometry ∙ same)) (next bytes t)
           (skip.steps _ (rw same kept.holds) bytes (ap (λ d. d.contents) image ∙ t));
       falls = omega (arith, inv.falls, rw c.in-Some.is at did.step.falls, skip.falls);
+      over = λ o. grind (arith, did.over (inv.over o).0, c.in-Some.is);
       any = omega (arith, inv.any, did.any, rw c.in-Some.is at did.step.falls, skip.falls);
       held = λ h. skip.counted.held _ (did.counted (inv.held h)).held;
       paid = λ h. omega (
@@ -126,6 +136,7 @@ loop-step-preserved g c =
       blocks = rw image at (keeps_then (ap (λ k. k.layout) inv.geometry) inv.blocks kept);
       left = λ bytes t. inv.left bytes t ∙ tail_left _ _ _ _ _ _ (ap (λ k. k.layout) did.same.geometry) (next bytes t);
       falls = omega (arith, inv.falls, rw c.in-Some.is at did.step.falls);
+      over = λ o. grind (arith, did.over (inv.over o).0, c.in-Some.is);
       any = omega (arith, inv.any, did.any, rw c.in-Some.is at did.step.falls);
       held = λ h. (did.counted (inv.held h)).held;
       paid = λ h. omega (arith, inv.paid h, rw (c.in-Some.is, c.in-Tail.is) at (did.counted (inv.held h)).paid);
@@ -137,15 +148,22 @@ returns g c =
     let did = c.in_ok-step.ensures in
     let image = did.leaves.read ∙ inv.image in
     let over = rw (inv.image, c.in_default.is) at did.step.steps in
-    let left = did.step.over c.in_default.is in
     record {
       run = record {
         runs = λ bytes t. inv.left bytes t ∙ none_left _ _ _ _ (over bytes t);
         falls = tt;
-        over = λ none bytes. none_left _ _ _ _ (top_ends bytes c.next.new.self (omega (arith, left.top)) left.single
-            left.double left.triple);
+        done = λ none. inr (did.step.over c.in_default.is);
       };
       over = tt;
+      done = λ d. elim d [
+        | inl shut ↦ grind (arith, shut, sym c.is_replay_open.ensures ∙ c.if-not-is_replay_open.false)
+        | inr over ↦
+            let done = (inv.over over).0 in (
+              refl,
+              (did.top (record { single = done.single; double = done.double; triple = done.triple })).1
+                  ∙ (inv.over over).1,
+            )
+      ];
       geometry = did.same.geometry ∙ inv.geometry;
       leaves = record {
         kept = keeps_then (ap (λ k. k.layout) inv.geometry) inv.blocks did.leaves.kept;

@@ -1,6 +1,6 @@
 use Rattle.std.proofs.Common.{◌≡◌, ◌+◌, ◌≤◌}
 use Rattle.ffs_image.specs.Device.{ForContents}
-use Rattle.ffs_walk.specs.{Counts.{AreHeld, unread}, KeptRuns.kept_runs_left, Rests.most_steps_left, Windows.KeepsBlocks}
+use Rattle.ffs_walk.specs.{Counts.{AreHeld, unread}, KeptRuns.kept_runs_left, Rests.{IsOver, most_steps_left}, Windows.KeepsBlocks}
 use Rattle.ffs_walk.proofs.kept_runs.KeptRuns.next.Given as goal
 
 abbrev pub invariant-loop-step : goal.invariant-loop-step
@@ -15,6 +15,7 @@ invariant-loop-step g l =
       left : ForContents d.contents (λ bytes. kept_runs_left bytes begun ≡ kept_runs_left bytes l.self);
       falls : most_steps_left l.self.walk ≤ most_steps_left begun.walk;
       held : AreHeld l.initial.blocks begun.walk → AreHeld l.blocks l.self.walk;
+      over : IsOver begun.walk → IsOver l.self.walk × (g.I.Image.reads l.image ≡ g.I.Image.reads l.initial.image);
       any : g.I.Image.reads l.image + most_steps_left l.self.walk
           ≤ g.I.Image.reads l.initial.image + most_steps_left begun.walk;
       paid : AreHeld l.initial.blocks begun.walk → g.I.Image.reads l.image + unread l.self.walk
