@@ -1,10 +1,10 @@
 -- As many fragments stop being to report as messages are said whole.
-use Rattle.std.proofs.Common.{◌≡◌, ◌≤◌, ◌+◌, ◌-◌, ◌<◌, ℕ, Bool, true, false, List, [], ◌∷◌, ◌++◌, length, slice_set, inl, inr}
-use Rattle.std.proofs.Common.{arith, refl, sym, ap, subst, ◌∙◌, length-append, if◌then◌else◌, map, Result, Ok, Err}
+use Rattle.std.proofs.Common.{◌≡◌, ◌≤◌, ◌+◌, ℕ, Bool, true, false, List, [], ◌∷◌, ◌++◌, length, slice_set, inl, inr}
+use Rattle.std.proofs.Common.{arith, refl, sym, ap, subst, ◌∙◌, length-append, if◌then◌else◌, Result, Ok, Err}
 use Rattle.std.proofs.{Math.ListN.get_or-eq_default, lemmas.{Bool.{cases_Bool, cases_lt, true≢false}, List.Sums.sum_by-set}}
 use Rattle.ffs_volume.specs.Blocks.{BlockCheck.{after_first, first_offer_lines, set_count}, Claims.is_set, KeptOffers.Offer}
 use Rattle.ffs_volume.specs.Messages.Kinds.{Message}
-use Rattle.ffs_report.specs.{Paid.LastBegun, Progress.{Progress, Said, Stopped}, declared.fault.RunFault.RunFault}
+use Rattle.ffs_report.specs.{Progress.{Said, Stopped}, declared.fault.RunFault.RunFault}
 use Rattle.ffs_report.{proofs.Reports.{said_none, said_then}, specs.declared.fault.RunFault.TheVariants.{Out, Read}}
 use Rattle.ffs_maps.specs.Bits.{bits_of}
 use Rattle.ffs_claims.specs.{Lines.of_lines, Moments.ClaimMoment, Reporting.{ClearsAsSaid, OffersReported}}

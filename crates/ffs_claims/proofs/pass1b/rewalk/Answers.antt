@@ -2,7 +2,6 @@ use Rattle.std.proofs.Common.{◌∙◌, [], arith, refl, ap, length, List}
 use Rattle.std.proofs.lemmas.Result.{err_from_is_err_and}
 use Rattle.ffs_volume.specs.Blocks.BlockCheck.{first_offer_lines, set_count}
 use Rattle.ffs_report.proofs.Reporting.{of_begins, of_reads, of_same, of_says, of_stops}
-use Rattle.ffs_image.specs.Known.{IsContents}
 use Rattle.ffs_maps.specs.Bits.{bits_of}
 use Rattle.ffs_walk.proofs.{Counted.{top_held, top_unread}, ReplayedRuns.indirect_most}
 use Rattle.ffs_walk.specs.KeptRuns.{kept_runs_left}
