@@ -17,6 +17,7 @@
 --   IndirectReads  how many indirect blocks are seen, and how often an image that gives its bytes is read
 --
 -- Phase 1b:
+--   Clearing       as many fragments stop being to report as messages are said whole
 --   Reportings     offers and their lines, one after another
 --   Rewalks        a second walk over an inode
 --   Rescanned      from inode to inode
@@ -29,6 +30,7 @@ pub mod Inodes
 pub mod Reserved
 pub mod Numbers
 pub mod Duplicates
+pub mod Clearing
 pub mod Reportings
 pub mod Rewalks
 pub mod Rescanned

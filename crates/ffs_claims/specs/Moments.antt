@@ -33,6 +33,10 @@ phase_moment I W image workspace report = record {
   report = progress W.sink report;
 }
 
+-- what a claim works on at a moment of a phase
+abbrev pub claim_at : PhaseMoment → ClaimMoment
+claim_at moment = record { workspace = moment.workspace; report = moment.report }
+
 -- the moment after one more read
 abbrev pub after_one_read : PhaseMoment → PhaseMoment
 after_one_read moment = record moment { reads = moment.reads + 1 }

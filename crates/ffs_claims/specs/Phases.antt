@@ -84,13 +84,14 @@ GoesOverOffers v bytes old new result = MatchResult result (λ _. OffersReported
 -- long as the count of Runs has room in a u64. Where the image gives its bytes it looks at no more
 -- Runs than phase 1 did, and reads no more than phase 1 does then: each block of the inode tables once,
 -- and each indirect block that is seen. Of the tables it reads no more blocks than up to the inode with the
--- last line
+-- last line. Where nothing is left to report, it reads nothing
 pub record Phase1bReadsUnlimited (v : Layout) (d : Device) (old new : Workspace) (before after : ℕ) : Type 0 where
   pub runs : ForBytes (WithNotes v d old) (λ bytes. new.runs_again ≤ run_count v bytes)
   pub reads : new.runs_again < 2 ^ 64 - 1 → after ≤ before + v.ncg * v.ipg + new.runs_again
   pub known : ForBytes (WithNotes v d old) (λ bytes. after ≤ before + volume_scan_reads v bytes)
   pub last : ForBytes (WithPhase1 v d old) (λ bytes.
       after ≤ before + div_ceil (rescan_end v bytes) v.inopb + indirect_count v bytes)
+  pub none : has_unreported_dups old ≡ false → after ≤ before
 
 -- phase 1b reads as it does without a limit, and never more often than a sweep may
 pub record Phase1bReads (v : Layout) (d : Device) (old new : Workspace) (before after : ℕ) : Type 0 where

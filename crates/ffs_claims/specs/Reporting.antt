@@ -1,9 +1,13 @@
 -- What phase 1b has reported, and what it leaves to report.
 use Rattle.std.specs.{List.list_any, Prelude.{◌≡◌, ◌≢◌, ◌<◌, ℕ, Result, OnErr, OnOk, ◌||◌, List, [], ◌∷◌, ◌++◌}}
+use Rattle.std.specs.Prelude.{◌≤◌, ◌+◌, ◌-◌, length, Ok, Err}
 use Rattle.ffs_volume.specs.Blocks.{BlockCheck.{blames, first_offer_lines, set_count, after_first}, KeptOffers.Offer}
 use Rattle.ffs_volume.specs.{declared.Layout.Layout, Blocks.Inodes.inodes_of}
 use Rattle.ffs_image.specs.Device.{Device}
-use Rattle.ffs_report.specs.{PhaseOutcome.ImageAfter, Progress.Says, declared.fault.RunFault.RunFault}
+use Rattle.ffs_volume.specs.Messages.Kinds.{Message}
+use Rattle.ffs_report.specs.{Paid.LastBegun, PhaseOutcome.ImageAfter, Progress.{Progress, Said, Says}}
+use Rattle.ffs_report.specs.declared.{fault.RunFault.RunFault, output.OutFault.OutFault}
+use Rattle.ffs_report.specs.declared.fault.RunFault.TheVariants.{Out}
 use Rattle.ffs_maps.specs.Bits.{bits_of}
 use Rattle.ffs_workspace.specs.{Holds.bool_at, Lengths.IsFor, Ready.CanRead, declared.workspace.Workspace.Workspace}
 use Rattle.ffs_claims.specs.{Lines.of_lines, Moments.ClaimMoment}
@@ -43,6 +47,23 @@ pub record OffersReportedOnly (v : Layout) (old new : Workspace) : Type 0 where
   pub reporting : ReportsOnly v old new
   pub runs : new.runs_again ≡ old.runs_again
 
+-- as many fragments stop being to report as messages were said whole after the headings. A fragment whose line the output
+-- failed in is to be reported still
+pub record ClearsAsSaid {T : Type 0} (headings : ℕ) (old new : ClaimMoment) (result : Result T RunFault) : Type 0 where
+  pub messages : List Message
+  pub last : List Message
+  pub few : length last ≤ 1
+  pub between : Progress
+  pub said : Said old.report between messages
+  pub begun : LastBegun last between new.report result
+  pub cleared : set_count (bits_of old.workspace.duplicates)
+      ≡ set_count (bits_of new.workspace.duplicates) + (length messages - headings)
+
+-- the answer of a call that reads nothing, as one of a call that may read
+abbrev pub of_output : {T : Type 0} → Result T OutFault → Result T RunFault
+of_output (Ok x) = Ok x
+of_output (Err fault) = Err (Out fault)
+
 -- a kept offer is gone over: it is reported, if it is to be, and all else is as offers leave it
 pub record ReportsOffer (v : Layout) (offer : Offer) (old new : Workspace) : Type 0 where
   pub reported : OffersReported (offer ∷ []) old new
@@ -50,12 +71,13 @@ pub record ReportsOffer (v : Layout) (offer : Offer) (old new : Workspace) : Typ
 
 -- kept offers are gone over, up to one at which the output failed: those are reported that are the first of a
 -- fragment with a DUP line, and all else is as reporting leaves it
-pub record ReportsOffers {T E : Type 0} (v : Layout) (offers : List Offer) (old new : ClaimMoment)
-    (result : Result T E) : Type 0 where
+pub record ReportsOffers {T : Type 0} (v : Layout) (offers : List Offer) (old new : ClaimMoment)
+    (result : Result T OutFault) : Type 0 where
   pub said : Says old.report new.report
       (of_lines (first_offer_lines (bits_of old.workspace.duplicates) offers)) result
   pub reported : OnOk result (OffersReported offers old.workspace new.workspace)
   pub part : OnErr result (ReportedInPart offers old.workspace new.workspace)
+  pub clears : ClearsAsSaid 0 old new (of_output result)
   pub only : ReportsOnly v old.workspace new.workspace
 
 -- first kept offers of an inode can be reported: the workspace was made for the volume, and the

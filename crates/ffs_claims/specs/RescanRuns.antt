@@ -14,8 +14,8 @@ use Rattle.ffs_image.specs.{Device.ForContents, Known.IsContents}
 use Rattle.ffs_maps.specs.Bits.{bits_of}
 use Rattle.ffs_walk.specs.{KeptRuns.{indirect_in_run, kept_runs}, declared.kept_runs.KeptRun.KeptRun}
 use Rattle.ffs_workspace.specs.{Tables.{HoldsInode, HoldsPiece}, declared.workspace.Workspace.Workspace}
-use Rattle.ffs_claims.specs.{Lines.of_lines, Moments.PhaseMoment}
-use Rattle.ffs_claims.specs.Reporting.{OffersReported, ReportedInPart, RewalkLeaves}
+use Rattle.ffs_claims.specs.{Lines.of_lines, Moments.{PhaseMoment, claim_at}}
+use Rattle.ffs_claims.specs.Reporting.{ClearsAsSaid, OffersReported, ReportedInPart, RewalkLeaves}
 
 -- the kept offers of a Run, and of Runs
 abbrev pub run_offers : (number : ℕ) → KeptRun → List Offer
@@ -82,6 +82,7 @@ pub record Rewalks {T : Type 0} (v : Layout) (number : ℕ) (inode : List ℕ �
       (offers_of_runs number (noted_runs v old.workspace number (inode bytes) bytes)) old.workspace new.workspace))
   pub runs : ForContents old.image.contents (λ bytes. new.workspace.runs_again
       ≤ old.workspace.runs_again + length (noted_runs v old.workspace number (inode bytes) bytes))
+  pub clears : ClearsAsSaid 0 (claim_at old) (claim_at new) result
   pub left : RewalkLeaves v old.image new.image old.workspace new.workspace result
   pub counted : RunsPay old.reads new.reads old.workspace.runs_again new.workspace.runs_again
   pub known : ForContents old.image.contents (λ bytes.

@@ -7,8 +7,8 @@ ghost use Rattle.ffs_image.specs.Known.{ForBytes};
 ghost use Rattle.ffs_report.specs.Progress.{progress};
 ghost use Rattle.ffs_volume.specs.Messages.Kinds as messages;
 ghost use Rattle.ffs_workspace.specs.{Found.WithPhase1, Ready.IsReady};
-ghost use Rattle.ffs_claims.specs.Moments.{after_one_read, phase_moment};
-ghost use Rattle.ffs_claims.specs.{Phases.{IsLeftByPhase1b, Phase1bReads}, Reporting.{CanRewalk, Phase1bKeeps}};
+ghost use Rattle.ffs_claims.specs.Moments.{after_one_read, claim_moment, phase_moment};
+ghost use Rattle.ffs_claims.specs.{Phases.{IsLeftByPhase1b, Phase1bReads}, Reporting.{CanRewalk, ClearsAsSaid, Phase1bKeeps}};
 ghost use Rattle.ffs_claims.specs.Phases.{GoesOverOffers, Phase1bReadsUnlimited, WithNotes, phase1b_messages_for};
 ghost use Rattle.ffs_maps.specs.Bits.{bits_of};
 ghost use Rattle.ffs_claims.specs.RescanRuns.{RereadsByBlock, Rewalks};
@@ -96,6 +96,8 @@ fn phase1b_unlimited<I: Image, W: Output>(
     ensures offers { ForBytes
         (WithNotes geometry.now.layout (I.device image.old) workspace.old)
         (λ bytes. GoesOverOffers geometry.now.layout bytes workspace.old workspace.new result) }
+    ensures clears { ClearsAsSaid 1 (claim_moment W.Output workspace.old report.old)
+        (claim_moment W.Output workspace.new report.new) result }
     ensures reads { Phase1bReadsUnlimited geometry.now.layout (I.device image.old) workspace.old
         workspace.new (I.reads image.old) (I.reads image.new) }
     ensures stays { Phase1bKeeps workspace.old workspace.new }
@@ -147,6 +149,10 @@ pub fn phase1b<I: Image, W: Output>(
     ensures offers { ForBytes
         (WithNotes geometry.now.layout (I.device image.old) workspace.old)
         (λ bytes. GoesOverOffers geometry.now.layout bytes workspace.old workspace.new result) }
+
+    // Where the output failed in a line, its fragment is to be reported still.
+    ensures clears { ClearsAsSaid 1 (claim_moment W.Output workspace.old report.old)
+        (claim_moment W.Output workspace.new report.new) result }
     ensures reads { Phase1bReads geometry.now.layout (I.device image.old) workspace.old
         workspace.new (I.reads image.old) (I.reads image.new) }
     ensures stays { Phase1bKeeps workspace.old workspace.new }

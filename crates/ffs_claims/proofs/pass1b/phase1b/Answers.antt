@@ -1,12 +1,12 @@
 use Rattle.std.proofs.{Common.{◌≡◌, ◌≤◌, ◌∙◌, ℕ, false, List, [], ap, arith, Result, Ok, Err}}
 use Rattle.ffs_image.specs.Device.{Device}
 use Rattle.ffs_volume.{proofs.RunBounds.runs_bounded, specs.Report.Whole.run_count}
-use Rattle.ffs_report.specs.{PhaseOutcome.{ImageAfter, PhaseReports, SaidOf}, Progress.Progress}
+use Rattle.ffs_report.specs.{PhaseOutcome.{HeadingFirst, ImageAfter, PhaseReports, SaidOf}, Progress.Progress}
 use Rattle.ffs_image.specs.Known.{ForBytes}
 use Rattle.ffs_report.{proofs.Reporting.reports_knowing, specs.declared.fault.RunFault.{RunFault, TheVariants.{Out, Read}}}
 use Rattle.ffs_volume.specs.Messages.Kinds.{Message}
-use Rattle.ffs_claims.specs.Phases.{WithNotes}
-use Rattle.ffs_claims.proofs.{Rescanned.text_noted, pass1b.phase1b.Goals.After-is_spent}
+use Rattle.ffs_claims.specs.{Moments.ClaimMoment, Phases.WithNotes, Reporting.ClearsAsSaid}
+use Rattle.ffs_claims.proofs.{Clearing.clears_ended, Rescanned.text_noted, pass1b.phase1b.Goals.After-is_spent}
 use Rattle.ffs_claims.proofs.pass1b.phase1b.Given as given
 use Rattle.ffs_claims.proofs.pass1b.phase1b.Goals as goal
 
@@ -38,6 +38,20 @@ said_of_spent knows knows' all a b (Err (Out fault)) same moved never p = absurd
 said_of_spent knows knows' all a b (Err (Read fault)) same moved never p =
     record { messages = p.messages; right = λ bytes k. absurd (never bytes k); said = p.told }
 
+-- and the heading first
+heading_spent : {T : Type 0} {d d' : Device} {heading : Message} {a b : Progress} {x : T} (r : Result T RunFault) →
+    ImageAfter d d' r → (d' ≡ d → ⊥) → HeadingFirst heading a b r → HeadingFirst heading a b (Ok x)
+heading_spent (Ok x) same moved p = absurd (moved same)
+heading_spent (Err (Out fault)) same moved p = absurd (moved same)
+heading_spent (Err (Read fault)) same moved p = record { more = p.more; says = p.says }
+
+-- and has cleared as many fragments
+clears_spent : {T : Type 0} {d d' : Device} {h : ℕ} {a b : ClaimMoment} {x : T} (r : Result T RunFault) →
+    ImageAfter d d' r → (d' ≡ d → ⊥) → ClearsAsSaid h a b r → ClearsAsSaid h a b (Ok x)
+clears_spent (Ok x) same moved p = absurd (moved same)
+clears_spent (Err (Out fault)) same moved p = absurd (moved same)
+clears_spent (Err (Read fault)) same moved p = clears_ended p
+
 pub returns-then-is_spent-clause-faults : goal.returns-then-is_spent-clause-faults
 returns-then-is_spent-clause-faults g c = grind arith
 
@@ -56,6 +70,14 @@ returns-then-is_spent-clause-text g c =
 pub returns-then-is_spent-clause-leaves : goal.returns-then-is_spent-clause-leaves
 returns-then-is_spent-clause-leaves g c = λ bytes k.
     let fit = fits g (goal.at.returns-then-is_spent-clause-leaves g c).After-is_spent bytes (k.0, k.1.notes) in grind arith
+
+pub returns-then-is_spent-clause-heading : goal.returns-then-is_spent-clause-heading
+returns-then-is_spent-clause-heading g c = heading_spent c.phase1b_unlimited-scanned.result
+    c.phase1b_unlimited-scanned.ensures.faults (λ e. grind arith) c.phase1b_unlimited-scanned.ensures.heading
+
+pub returns-then-is_spent-clause-clears : goal.returns-then-is_spent-clause-clears
+returns-then-is_spent-clause-clears g c = clears_spent c.phase1b_unlimited-scanned.result
+    c.phase1b_unlimited-scanned.ensures.faults (λ e. grind arith) c.phase1b_unlimited-scanned.ensures.clears
 
 pub returns-then-is_spent-clause-offers : goal.returns-then-is_spent-clause-offers
 returns-then-is_spent-clause-offers g c = grind (arith, fits)
@@ -82,6 +104,9 @@ returns-clause-leaves g c = grind arith
 
 pub returns-clause-offers : goal.returns-clause-offers
 returns-clause-offers g c = grind arith
+
+pub returns-clause-clears : goal.returns-clause-clears
+returns-clause-clears g c = c.phase1b_unlimited-scanned.ensures.clears
 
 pub returns-clause-reads : goal.returns-clause-reads
 returns-clause-reads g c = grind arith

@@ -10,6 +10,7 @@ use Rattle.ffs_maps.specs.Bits.{bits_of}
 use Rattle.ffs_workspace.specs.{Found.WithPhase1, declared.workspace.Workspace.Workspace}
 use Rattle.ffs_volume.specs.Blocks.{Inodes.inodes_of, Claims.all_claims, BlockCheck.{set_count, after_first}}
 use Rattle.ffs_volume.specs.Costs.RescanRuns.{runs_until_reported, rescan_runs}
+use Rattle.ffs_claims.proofs.{Clearing.{clears_after, clears_none, none_to_clear, clears_stopped, clears_then}}
 use Rattle.ffs_claims.proofs.{FirstOffers.all_reported}
 use Rattle.ffs_claims.proofs.Duplicates.{none_first, none_left, some_left}
 use Rattle.ffs_claims.proofs.Frames.{claims_none, claims_then, ready_again}
@@ -32,6 +33,12 @@ returns-in_err-say-clause-again g c =
     let all = phase1b_messages_for (bits_of c.args.workspace.now.duplicates) c.args.geometry.now.layout in
     rw (p.1, p.2) (of_stops _ all _ _ (phase1b ∷ []) _ _ _ (of_begins {all = all}) (λ bytes t. refl)
     c.in_err-say.ensures.said)
+
+pub returns-in_err-say-clause-clears : goal.returns-in_err-say-clause-clears
+returns-in_err-say-clause-clears g c =
+    let p = err_from_is_err_and c.from_residual.result c.from_residual.ensures.1 in
+    rw (p.1, p.2) (clears_stopped (phase1b ∷ []) (omega arith) c.in_err-say.ensures.said
+    (ap (λ (w : Workspace). w.duplicates) c.forget_windows.ensures.only))
 
 pub returns-in_err-say-clause-offers : goal.returns-in_err-say-clause-offers
 returns-in_err-say-clause-offers g c =
@@ -73,6 +80,8 @@ loop-number-init g c =
           (of_begins {all = phase1b_messages_for (bits_of old.duplicates) v})
           (λ bytes k. rw (before_first v bytes, same) refl) c.in_ok-say.ensures.said;
       heading = heading_alone c.in_ok-say.ensures.said;
+      clears = clears_none refl refl;
+      none = λ e. omega arith;
     }
 
 pub returns-in_err-rewalk_inode-clause-faults : goal.returns-in_err-rewalk_inode-clause-faults
@@ -108,6 +117,14 @@ returns-in_err-rewalk_inode-clause-offers g c =
     (is_noted c.args.geometry.now.sound inv.low (omega arith) inv.claims k.1))
     (c.in_err-rewalk_inode.ensures.walks.part bytes (ap (λ d. d.contents) inv.device ∙ k.0)))
 
+pub returns-in_err-rewalk_inode-clause-clears : goal.returns-in_err-rewalk_inode-clause-clears
+returns-in_err-rewalk_inode-clause-clears g c =
+    let from = c.from_residual-in_err-rewalk_inode in
+    let p = err_from_is_err_and from.result from.ensures.1 in
+    rw (p.1, p.2) (clears_after phase1b c.in_ok-say.ensures.said
+    (ap (λ (w : Workspace). w.duplicates) c.forget_windows.ensures.only)
+    (clears_then c.loop-number.invariant.clears c.in_err-rewalk_inode.ensures.walks.clears))
+
 pub returns-in_err-rewalk_inode-clause-reads : goal.returns-in_err-rewalk_inode-clause-reads
 returns-in_err-rewalk_inode-clause-reads g c =
     let v = c.args.geometry.now.layout in
@@ -118,6 +135,7 @@ returns-in_err-rewalk_inode-clause-reads g c =
     let notes = c.loop-number.workspace.notes.items in
     let image = ap (λ d. d.contents) inv.device in
     let last : n < inodes_of v = omega arith in
+    let forgot = ap (λ (w : Workspace). set_count (bits_of w.duplicates)) c.forget_windows.ensures.only in
     record {
       runs = λ bytes k.
           let on = runs_on v bytes _ n (is_noted c.args.geometry.now.sound inv.low last inv.claims k.1) in
@@ -138,6 +156,8 @@ returns-in_err-rewalk_inode-clause-reads g c =
           read_failed_until c.args.geometry.now.sound last (omega (arith, on, inv.inodes bytes k))
           (λ held. indirect_noted _ _ noted (table.known held bytes (image ∙ k.0)))
           (indirect_noted _ _ noted (did.known bytes (image ∙ k.0))) (inv.known bytes (k.0, k.1.notes));
+      none = λ e. absurd (some_left _ _ c.has_unreported_dups.ensures c.if-not-has_unreported_dups.false
+          (none_to_clear inv.clears (forgot ∙ none_left (set_count (bits_of c.args.workspace.now.duplicates)) _ refl e)));
     }
 
 pub loop-number-preserved : goal.loop-number-preserved
@@ -150,6 +170,7 @@ loop-number-preserved g c =
     let d' = bits_of c.rewalk_inode.new.workspace.duplicates in
     let notes = c.loop-number.workspace.notes.items in
     let image = ap (λ d. d.contents) inv.device in
+    let forgot = ap (λ (w : Workspace). set_count (bits_of w.duplicates)) c.forget_windows.ensures.only in
     let rewalks = c.in_ok-rewalk_inode.ensures.walks in
     let table = c.in_ok-rewalk_inode.ensures.by_block in
     let noted : ForBytes (WithNotes v (g.I.Image.device c.args.image.now) c.args.workspace.now)
@@ -195,6 +216,9 @@ loop-number-preserved g c =
           (rewalks.rewalked bytes (image ∙ k.0)).reported.duplicates)
           (said_knows (λ bytes k. image ∙ k.0) rewalks.text);
       heading = heading_part _ _ (Ok tt) inv.heading rewalks.text;
+      clears = clears_then inv.clears rewalks.clears;
+      none = λ e. absurd (some_left _ _ c.has_unreported_dups.ensures c.if-not-has_unreported_dups.false
+          (none_to_clear inv.clears (forgot ∙ e)));
     }
 
 pub returns-then-not-has_unreported_dups : goal.returns-then-not-has_unreported_dups
@@ -222,7 +246,10 @@ returns-then-not-has_unreported_dups g c =
         reads = runs_pay_all _ _ _ inv.reads (numbers_most n (inodes_of v) inv.high);
         known = λ bytes k. read_all sound (omega (arith, inv.high, some_inodes v sound)) (inv.known bytes k);
         last = λ bytes k. read_until sound (omega (arith, inv.inodes bytes k)) (inv.known bytes (k.0, k.1.notes));
+        none = λ e. inv.none (none_left (set_count (bits_of c.args.workspace.now.duplicates)) _ refl e);
       };
+      clears = clears_after phase1b c.in_ok-say.ensures.said
+          (ap (λ (w : Workspace). w.duplicates) c.forget_windows.ensures.only) inv.clears;
       stays = inv.claims;
       ready = inv.ready.ready;
     }
@@ -254,7 +281,10 @@ returns-after-loop-number g c =
         reads = runs_pay_all _ _ _ inv.reads (numbers_most n (inodes_of v) inv.high);
         known = λ bytes k. read_all sound (omega (arith, inv.high, some_inodes v sound)) (inv.known bytes k);
         last = λ bytes k. read_until sound (omega (arith, inv.inodes bytes k)) (inv.known bytes (k.0, k.1.notes));
+        none = λ e. inv.none (none_left (set_count (bits_of c.args.workspace.now.duplicates)) _ refl e);
       };
+      clears = clears_after phase1b c.in_ok-say.ensures.said
+          (ap (λ (w : Workspace). w.duplicates) c.forget_windows.ensures.only) inv.clears;
       stays = inv.claims;
       ready = inv.ready.ready;
     }

@@ -1,5 +1,5 @@
 use Rattle.std.proofs.Common.{◌≡◌, ◌+◌, ◌-◌, ◌<◌, ◌≤◌, Ok}
-use Rattle.ffs_volume.specs.Blocks.{BlockCheck.first_offer_lines, Inodes.inodes_of}
+use Rattle.ffs_volume.specs.Blocks.{BlockCheck.{first_offer_lines, set_count}, Inodes.inodes_of}
 use Rattle.ffs_volume.specs.Costs.RescanRuns.{rescan_runs, runs_until_reported}
 use Rattle.ffs_volume.specs.Blocks.KeptSteps.{claims_before}
 use Rattle.ffs_report.specs.{PhaseOutcome.{HeadingFirst, SaidOf}, Progress.progress}
@@ -9,7 +9,8 @@ use Rattle.ffs_maps.specs.Bits.{bits_of}
 use Rattle.ffs_workspace.specs.{Found.WithPhase1, Ready.CanRead}
 use Rattle.ffs_claims.{proofs.{IndirectReads.VolumeRead, Reportings.Reporting, Rescanned.{each_from, kept_from, runs_from}}}
 use Rattle.ffs_claims.specs.Lines.{of_lines}
-use Rattle.ffs_claims.specs.{Phases.{WithNotes, kept_offers, phase1b_messages_for}, Reporting.Phase1bKeeps}
+use Rattle.ffs_claims.specs.{Moments.claim_moment, Phases.{WithNotes, kept_offers, phase1b_messages_for}}
+use Rattle.ffs_claims.specs.Reporting.{ClearsAsSaid, Phase1bKeeps}
 use Rattle.ffs_claims.specs.RescanRuns.{RunsPay, rescan_end}
 use Rattle.ffs_claims.proofs.pass1b.phase1b_unlimited.Given as goal
 
@@ -38,4 +39,8 @@ invariant-loop-number g l = let v = l.geometry.layout in
           (progress g.W.Output.sink l.fn.report) (progress g.W.Output.sink l.report);
       heading : HeadingFirst {T = Unit {0}} phase1b (progress g.W.Output.sink l.fn.report)
           (progress g.W.Output.sink l.report) (Ok tt);
+      clears : ClearsAsSaid {T = Unit {0}} 0 (claim_moment g.W.Output l.initial.workspace l.initial.report)
+          (claim_moment g.W.Output l.workspace l.report) (Ok tt);
+      none : set_count (bits_of l.fn.workspace.duplicates) ≡ 0 →
+          g.I.Image.reads l.image ≤ g.I.Image.reads l.fn.image;
     }

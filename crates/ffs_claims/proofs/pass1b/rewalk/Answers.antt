@@ -2,12 +2,12 @@ use Rattle.std.proofs.Common.{◌∙◌, [], arith, refl, ap, length, List}
 use Rattle.std.proofs.lemmas.Result.{err_from_is_err_and}
 use Rattle.ffs_volume.specs.Blocks.BlockCheck.{first_offer_lines, set_count}
 use Rattle.ffs_report.proofs.Reporting.{of_begins, of_reads, of_same, of_says, of_stops}
-use Rattle.ffs_image.specs.Known.{IsContents}
 use Rattle.ffs_maps.specs.Bits.{bits_of}
 use Rattle.ffs_walk.proofs.{Counted.{top_held, top_unread}, ReplayedRuns.indirect_most}
 use Rattle.ffs_walk.specs.KeptRuns.{kept_runs_left}
 use Rattle.ffs_claims.proofs.{Duplicates.{none_first, none_left, some_left}, Frames.{can_walk, claims_none, ready_read}}
 use Rattle.ffs_claims.proofs.{Frames.ready_walked, Reportings.{lines_split, part_from, part_now, part_then}}
+use Rattle.ffs_claims.proofs.Clearing.{clears_from, clears_none, clears_read, clears_then}
 use Rattle.ffs_claims.proofs.Rewalks.{counted_most, rereads_on, rewalk_begins, rewalk_ends, rewalk_on, rewalk_over, runs_pay_on}
 use Rattle.ffs_workspace.specs.declared.workspace.Windows.{Windows}
 use Rattle.ffs_claims.specs.{Lines.of_lines, RescanRuns.{indirect_among, offers_of_runs}}
@@ -28,6 +28,7 @@ loop-run-init g c =
       indirect = λ bytes t. rw (begun bytes) (omega (arith, unread));
       walk = λ bytes t. rewalk_begins (begun bytes);
       said = of_same of_begins (λ bytes t. rw (begun bytes) refl);
+      clears = clears_none refl refl;
     }
 
 pub next-requires : goal.next-requires
@@ -46,6 +47,7 @@ returns-in_err-run-clause-walks g c =
       rewalked = tt;
       part = λ bytes t. part_now (inv.walk bytes t).reported refl refl;
       runs = λ bytes t. omega (arith, (inv.walk bytes t).runs);
+      clears = clears_read (clears_then inv.clears (clears_none refl refl));
       left = grind arith;
       counted = grind arith;
       known = λ bytes t. omega (arith, inv.indirect bytes t, reads.most);
@@ -70,6 +72,7 @@ returns-in_err-report_run-clause-walks g c =
       part = λ bytes t. part_then _ (inv.walk bytes t).reported (ap (offers_of_runs n) (next bytes t))
           (part_from _ _ _ did.part refl refl);
       runs = λ bytes t. omega (arith, (inv.walk bytes t).runs, counted_most _ _ counts, ap length (next bytes t));
+      clears = clears_then inv.clears (clears_from did.clears refl refl);
       left = record { image = on.image; ready = on.ready; claims = on.claims };
       counted = runs_pay_on inv.counted counts (omega (arith, paid, indirect_most c.in-Some.run'.block));
       known = λ bytes t. omega (arith, inv.indirect bytes t, paid, ap indirect_among (next bytes t));
@@ -95,6 +98,7 @@ loop-run-preserved g c =
       said = of_says inv.said
           (λ bytes t. lines_split _ (bits_of c.report_run.new.workspace.duplicates) _ _ _
           (ap (offers_of_runs c.args.number) (next bytes t)) did.reported.duplicates) did.said;
+      clears = clears_then inv.clears (clears_from did.clears refl refl);
     }
 
 pub returns-then-not-has_unreported_dups-clause-walks : goal.returns-then-not-has_unreported_dups-clause-walks
@@ -116,6 +120,7 @@ returns-then-not-has_unreported_dups-clause-walks g c =
           (rewalk_on _ (next bytes t) inv.pending refl refl did.reported counts (inv.walk bytes t));
       part = tt;
       runs = λ bytes t. omega (arith, (inv.walk bytes t).runs, counted_most _ _ counts, ap length (next bytes t));
+      clears = clears_then inv.clears (clears_from did.clears refl refl);
       left = rereads_on c.in_ok-run.ensures.leaves.read inv.geometry c.next.ensures.leaves.kept did.only inv.left;
       counted = runs_pay_on inv.counted counts (omega (arith, paid, indirect_most c.in-Some.run'.block));
       known = λ bytes t. omega (arith, inv.indirect bytes t, paid, ap indirect_among (next bytes t));
@@ -134,6 +139,7 @@ returns-in_default-clause-walks g c =
       rewalked = λ bytes t. rewalk_ends (over bytes t) (inv.walk bytes t);
       part = tt;
       runs = λ bytes t. omega (arith, (inv.walk bytes t).runs);
+      clears = clears_then inv.clears (clears_none refl refl);
       left = grind arith;
       counted = grind arith;
       known = λ bytes t. omega (arith, inv.indirect bytes t, paid);

@@ -1,10 +1,11 @@
-use Rattle.std.proofs.Common.{◌≡◌, ◌≢◌, ◌+◌, ◌≤◌}
+use Rattle.std.proofs.Common.{◌≡◌, ◌≢◌, ◌+◌, ◌≤◌, Ok}
 use Rattle.ffs_volume.specs.Blocks.BlockCheck.{first_offer_lines, set_count}
 use Rattle.ffs_report.specs.{PhaseOutcome.SaidOf, Progress.progress}
 use Rattle.ffs_image.specs.Known.{ForBytes, IsContents}
 use Rattle.ffs_maps.specs.Bits.{bits_of}
 use Rattle.ffs_walk.specs.{Counts.{AreHeld, unread}, KeptRuns.kept_runs_left, Rests.most_steps_left}
 use Rattle.ffs_claims.{proofs.Rewalks.{Rereads, Rewalking}, specs.Lines.of_lines}
+use Rattle.ffs_claims.specs.{Moments.claim_moment, Reporting.ClearsAsSaid}
 use Rattle.ffs_claims.specs.RescanRuns.{RunsPay, indirect_among, noted_runs, offers_of_runs}
 use Rattle.ffs_claims.proofs.pass1b.rewalk.Given as goal
 
@@ -29,6 +30,8 @@ invariant-loop-run g l =
           (offers_of_runs l.number (kept_runs_left bytes l.runs))))
           (λ bytes. of_lines (first_offer_lines (bits_of begun.duplicates) (offers_of_runs l.number (all bytes))))
           (progress g.W.Output.sink l.initial.report) (progress g.W.Output.sink l.report);
+      clears : ClearsAsSaid {T = Unit {0}} 0 (claim_moment g.W.Output begun l.initial.report)
+          (claim_moment g.W.Output l.workspace l.report) (Ok tt);
     }
 
 abbrev pub decreases-loop-run : goal.decreases-loop-run
