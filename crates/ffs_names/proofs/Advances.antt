@@ -1,5 +1,5 @@
 -- How a reading of chunks goes from step to step: over Tails and Gaps, and past each Run that is seen.
-use Rattle.std.proofs.Common.{◌≡◌, ◌≤◌, ℕ, zero, suc, ◌+◌, ◌-◌, ◌^◌, ◌==◌, min, Bool, true, false, ◌||◌, if◌then◌else◌}
+use Rattle.std.proofs.Common.{◌≡◌, ◌≤◌, ◌<◌, ℕ, zero, suc, ◌+◌, ◌-◌, ◌^◌, ◌==◌, min, Bool, true, false, ◌||◌, if◌then◌else◌}
 use Rattle.std.proofs.Common.{List, [], ◌∷◌, ◌++◌, replicate, Option, Some, None, arith, inr, refl, sym, ap, ◌∙◌}
 use Rattle.std.proofs.lemmas.Bool.{or_right}
 use Rattle.ffs_volume.{proofs.ReplayLaws.{counted_same, gaps_seen}, specs.declared.{Layout.Layout, Step.Step}}
@@ -13,6 +13,7 @@ use Rattle.ffs_names.specs.{Costs.{SeesRun, unread_run}, Readings.{CanSee, Conti
 use Rattle.ffs_names.specs.{Readings.{chunks_after, gap_after, runs_after}, RunCursors.{IsWhole, cursor_chunks, reading_by}}
 use Rattle.ffs_names.specs.declared.{chunks.Chunks.Chunks, run_cursor.RunCursor.RunCursor}
 use Rattle.ffs_names.proofs.{Continuing.{continues_more, counts_here}, ReadCounts.{entered_one, run_over}}
+use Rattle.ffs_names.proofs.RunChunks.{cursor_step}
 
 -- ---- where nothing is left
 -- a walk that is over has no steps left, and no Runs
@@ -49,6 +50,13 @@ seen_if_shut {b = b} {c = c} e h =
 
 pub seen_if_over : {b : List ℕ} {c : Chunks} → c.run_cursor.next ≡ c.run_cursor.count → IsOver c.walk → HasSeenAll b c
 seen_if_over {b = b} {c = c} e o = grind (arith, over_rest, no_run_cursor)
+
+-- where all is seen, no chunk of the current Run is left
+pub run_is_given : {b : List ℕ} {c : Chunks} → HasSeenAll b c → c.run_cursor.next < c.run_cursor.count → ⊥
+run_is_given {b = b} {c = c} seen more =
+    let none = sym (cursor_step c.walk.geometry.layout b c.run_cursor (chunks_after b c (steps_left b c.walk)) more)
+    ∙ seen.chunks in
+    cc
 
 -- where no hole is left, what was seen stands
 pub gap_ended : (gap left : Bool) → left ≡ false → (gap || left) ≡ gap

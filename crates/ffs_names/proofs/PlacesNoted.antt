@@ -10,7 +10,7 @@ use Rattle.std.specs.declared.alloc.Global.{Global}
 use Rattle.ffs_image.specs.Device.{Device}
 use Rattle.ffs_volume.proofs.{LevelLaws.{level-some, within-zero}}
 use Rattle.ffs_volume.{proofs.{SearchLaws.first_below-some, Unreached.edge-parts}, specs.declared.Layout.Layout}
-use Rattle.ffs_volume.specs.{Disk.{Numbers.piece}, Laws.{Geometry.IsAcceptedLayout}}
+use Rattle.ffs_volume.specs.{Disk.{Numbers.piece}, Encodings.Lists.bool_at, Laws.{Geometry.IsAcceptedLayout}}
 use Rattle.ffs_volume.specs.Directories.{Entries.{Chunk, Entry, chunk_of, entries_of}, Graph.{Graph, edge}}
 use Rattle.ffs_volume.specs.Directories.Graph.{is_naming_dir, is_naming_entry, level, parent, parent_by}
 use Rattle.ffs_volume.specs.Directories.{Naming.graph_of, Roles.{RoledEntry, is_dir}}
@@ -385,20 +385,28 @@ coming_end v b words none coming x k h =
     ]
 
 -- ---- what is to be read
--- only parents are to be read: one more of them is, and one isn't any more
-abbrev pub OnlyParents : (parents ws : List ℕ) → Type 0
-OnlyParents parents ws = (p : ℕ) → is_to_be_read (slice_index ws p) ≡ true → IsParent parents p
+-- only parents of reached inodes are to be read: one more of them is, and one isn't any more
+abbrev pub OnlyParents : (reached : List Bool) (parents ws : List ℕ) → Type 0
+OnlyParents reached parents ws = (p : ℕ) → is_to_be_read (slice_index ws p) ≡ true → IsParent reached parents p
 
-pub only_more : (parents ws : List ℕ) (child i word : ℕ) → 2 < child → slice_index parents child ≡ i → 2 ≤ i →
-    OnlyParents parents ws → OnlyParents parents (slice_set ws i word)
-only_more parents ws child i word above up low only p h = elim (cases_eq p i) [
-  | inl e ↦ record { child = child; after_root = above; parent_is = up ∙ sym e; from_root = rw e low }
+pub only_more : (reached : List Bool) (parents ws : List ℕ) (child i word : ℕ) → 2 < child →
+    bool_at reached child ≡ true → slice_index parents child ≡ i → 2 ≤ i → OnlyParents reached parents ws →
+    OnlyParents reached parents (slice_set ws i word)
+only_more reached parents ws child i word above is_reached up low only p h = elim (cases_eq p i) [
+  | inl e ↦ record {
+    child = child;
+    after_root = above;
+    is_reached = is_reached;
+    parent_is = up ∙ sym e;
+    from_root = rw e low;
+  }
   | inr o ↦ only p (sym (set_other is_to_be_read ws i word p o) ∙ h)
 ]
 
-pub only_fewer : (parents old new : List ℕ) (i word : ℕ) → i < length old → is_to_be_read word ≡ false →
-    KeepsToRead (slice_set old i word) new → OnlyParents parents old → OnlyParents parents new
-only_fewer parents old new i word low was_read keeps only p h = elim (cases_eq p i) [
+pub only_fewer : (reached : List Bool) (parents old new : List ℕ) (i word : ℕ) → i < length old →
+    is_to_be_read word ≡ false → KeepsToRead (slice_set old i word) new → OnlyParents reached parents old →
+    OnlyParents reached parents new
+only_fewer reached parents old new i word low was_read keeps only p h = elim (cases_eq p i) [
   | inl e ↦ absurd (both_ways (is_to_be_read word) was_read
       (sym (ap is_to_be_read (get_or-set_same old i word 0 low)) ∙ (sym (keeps i) ∙ (rw e at h))))
   | inr o ↦ only p (sym (set_other is_to_be_read old i word p o) ∙ (sym (keeps p) ∙ h))
@@ -406,7 +414,7 @@ only_fewer parents old new i word low was_read keeps only p h = elim (cases_eq p
 
 -- a parent that the survey found is a directory
 pub parent_is_dir : {v : Layout} {b : List ℕ} {w : Workspace} {p : ℕ} → HoldsSurvey v b w →
-    IsParent w.parents.items p → is_dir (volume_of v b) p ≡ true
+    IsParent w.reached.items w.parents.items p → is_dir (volume_of v b) p ≡ true
 parent_is_dir {v = v} {b = b} {p = p} survey under =
     go (parent (graph_of (volume_of v b)) under.child) refl
   where

@@ -100,30 +100,33 @@ pub record NotesDirectory {T : Type 0} (v : Layout) (b : List ℕ) (p : ℕ) (ol
       old.workspace.queue.items new.workspace.queue.items)
   pub counted : new.reads ≤ old.reads + noted_directory_cost v b p
 
--- p is the parent of an inode with a number greater than the root's
-pub record IsParent (parents : List ℕ) (p : ℕ) : Type 0 where
+-- p is the parent of a reached inode with a number greater than the root's
+pub record IsParent (reached : List Bool) (parents : List ℕ) (p : ℕ) : Type 0 where
   pub child : ℕ
   pub after_root : ROOTINO < child
+  pub is_reached : bool_at reached child ≡ true
   pub parent_is : slice_index parents child ≡ p
   pub from_root : ROOTINO ≤ p
 
--- whether d is a parent by this list, of an inode with a number greater than the root's
-abbrev pub has_child : (parents : List ℕ) → (d : ℕ) → Bool
-has_child parents d = some_below (λ x. nat_lt ROOTINO x && (slice_index parents x == d)) (length parents)
+-- whether d is a parent by these lists, of a reached inode with a number greater than the root's
+abbrev pub has_child : (reached : List Bool) (parents : List ℕ) → (d : ℕ) → Bool
+has_child reached parents d =
+    some_below (λ x. nat_lt ROOTINO x && (bool_at reached x && (slice_index parents x == d))) (length parents)
 
--- at most how many reads parents take in a sweep
-abbrev pub parents_sweep_cost : Layout → List ℕ → (parents : List ℕ) → ℕ
-parents_sweep_cost v b parents = costs_below (has_child parents) (noted_directory_cost v b) (inodes_of v)
+-- at most how many reads the parents of reached inodes take in a sweep, by what the workspace has
+abbrev pub parents_sweep_cost : Layout → List ℕ → Workspace → ℕ
+parents_sweep_cost v b w =
+    costs_below (has_child w.reached.items w.parents.items) (noted_directory_cost v b) (inodes_of v)
 
 -- a word for each inode: no place is noted, no number below the root's is to be read, the parent of each
--- reached inode with a number greater than the root's is to be read, and only parents are
+-- reached inode with a number greater than the root's is to be read, and only parents of such inodes are
 pub record BeginsNotes (reached : List Bool) (parents : List ℕ) (words : Vec ℕ Global) : Type 0 where
   pub long : vec_len words ≡ length reached
   pub none : (x : ℕ) → part_in (slice_index words.items x) ≡ 0
   pub low : (x : ℕ) → x < ROOTINO → is_to_be_read (slice_index words.items x) ≡ false
   pub to_read : (x : ℕ) → ROOTINO < x → x < length reached → bool_at reached x ≡ true → ROOTINO ≤ slice_index parents x
       → slice_index parents x < length reached → is_to_be_read (slice_index words.items (slice_index parents x)) ≡ true
-  pub only : (p : ℕ) → is_to_be_read (slice_index words.items p) ≡ true → IsParent parents p
+  pub only : (p : ℕ) → is_to_be_read (slice_index words.items p) ≡ true → IsParent reached parents p
 
 -- what the survey found is held with the places, and a place is noted of each directory that is
 -- reached and isn't the root

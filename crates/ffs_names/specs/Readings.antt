@@ -94,12 +94,15 @@ abbrev pub CountsEach : List ℕ → (old new : Chunks) → Type 0
 CountsEach b old new = CountsOn (old.runs + runs_left b old) (new.runs + runs_left b new)
 
 -- the count of Runs never falls in a call: each that is looked at is counted, and after a fault no more of them
--- are counted and to be counted than before
+-- are counted and to be counted than before. Where a fault left a chunk of the current Run to be given, so that
+-- the read of that Run failed, each that was looked at is counted then too
 pub record CountsRuns {T : Type 0} (contents : Option (List ℕ)) (old new : Chunks) (result : Result T ImageFault) :
     Type 0 where
   pub rises : old.runs ≤ new.runs
   pub each : OnOk result (ForContents contents (λ b. CountsEach b old new))
   pub fault : OnErr result (ForContents contents (λ b. CountsNoMore b old new))
+  pub chunk : OnErr result (new.run_cursor.next < new.run_cursor.count
+      → ForContents contents (λ b. CountsEach b old new))
 
 -- no chunk of a reading comes any more, and all else of it stays
 pub record StopsChunks (old new : Chunks) : Type 0 where

@@ -235,7 +235,7 @@ fn note_places_unlimited<I: Image>(
     ensures parents { ForBytes
         (WithSurvey geometry.now.layout (I.device image.old) workspace.old)
         (λ bytes. I.reads image.new ≤ I.reads image.old
-        + parents_sweep_cost geometry.now.layout bytes workspace.old.parents.items) }
+        + parents_sweep_cost geometry.now.layout bytes workspace.old) }
     ensures leaves { NotingLeaves geometry.now.layout (work_moment I.Image image.old workspace.old)
         (work_moment I.Image image.new workspace.new) result }
 {
@@ -275,11 +275,11 @@ pub fn note_places<I: Image>(
     ensures reads { SweepsOnce geometry.now.layout
         (WithSurvey geometry.now.layout (I.device image.old) workspace.old)
         (I.reads image.old) (I.reads image.new) }
-    // Of directories only those that are parents are read.
+    // Of directories only those are read that are the parent of a reached one.
     ensures parents { ForBytes
         (WithSurvey geometry.now.layout (I.device image.old) workspace.old)
         (λ bytes. I.reads image.new ≤ I.reads image.old
-        + parents_sweep_cost geometry.now.layout bytes workspace.old.parents.items) }
+        + parents_sweep_cost geometry.now.layout bytes workspace.old) }
     ensures leaves { NotingLeaves geometry.now.layout (work_moment I.Image image.old workspace.old)
         (work_moment I.Image image.new workspace.new) result }
 {

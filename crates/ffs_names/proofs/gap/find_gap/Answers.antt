@@ -1,5 +1,5 @@
 use Rattle.std.proofs.{Common.{sym, ap, ◌∙◌, arith, rules}, lemmas.Result.err_from_is_err_and}
-use Rattle.ffs_names.proofs.{Advances.gap_ended, Continuing.{counts_more, same_more}, ReadCounts.run_passed}
+use Rattle.ffs_names.proofs.{Advances.{gap_ended, run_is_given}, Continuing.{counts_more, same_more}, ReadCounts.run_passed}
 use Rattle.ffs_names.proofs.RunChunks.{none_taken}
 use Rattle.ffs_names.proofs.gap.find_gap.Goals as goal
 
@@ -43,6 +43,7 @@ returns g c =
         each = λ b t. counts_more (inv.each b t)
             (c.in_ok-advance.ensures.continues b (ap (λ d. d.contents) inv.same ∙ t)).runs;
         fault = tt;
+        chunk = tt;
       };
       leaves = record {
         same = same_more went.same inv.kept;
@@ -75,6 +76,7 @@ returns-in_err-advance g c =
           (inv.each b t).most,
           c.in_err-advance.ensures.continues b (ap (λ d. d.contents) inv.same ∙ t),
         );
+        chunk = λ more b t. absurd (run_is_given (c.in_err-advance.ensures.fault b) more);
       };
       leaves = record {
         same = same_more failed.same inv.kept;

@@ -1,4 +1,5 @@
-use Rattle.std.proofs.Common.{◌≡◌, ◌<◌, ◌≤◌, ◌∙◌, arith, length, rules, slice_index, sym}
+use Rattle.std.proofs.Common.{◌≡◌, ◌<◌, ◌≤◌, ◌∙◌, arith, length, rules, slice_index, sym, true}
+use Rattle.ffs_volume.specs.Encodings.Lists.{bool_at}
 use Rattle.std.proofs.lemmas.Grind.{common_steps, get_or_default_zero}
 use Rattle.ffs_names.proofs.PlacesNoted.{only_more}
 use Rattle.ffs_names.proofs.places.flag_parents.Goals as goal
@@ -20,8 +21,9 @@ loop-number-preserved c =
             let up : slice_index parents number ≡ c.index.result.now =
             sym (c.index.ensures ∙ get_or_default_zero parents number c.index.result.now inside) in
             let low : 2 ≤ c.index.result.now = grind (arith, common_steps) in
-            rw w.set.ensures.items (only_more parents c.loop-number.words.items number c.index.result.now w.with_due.result
-            (omega arith) up low inv.only);
+            let reached : bool_at c.args.reached.now.items number ≡ true = grind (arith, common_steps) in
+            rw w.set.ensures.items (only_more c.args.reached.now.items parents c.loop-number.words.items number c.index.result.now w.with_due.result
+            (omega arith) reached up low inv.only);
         to_read = grind (arith, common_steps);
       })
       | else-index w ↦ rw w.words-is (record {

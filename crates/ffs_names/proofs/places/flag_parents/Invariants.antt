@@ -9,7 +9,7 @@ invariant-loop-number l = record {
   long : vec_len l.words ≡ vec_len l.reached;
   none : (x : ℕ) → part_in (slice_index l.words.items x) ≡ 0;
   low : (x : ℕ) → x < 2 → is_to_be_read (slice_index l.words.items x) ≡ false;
-  only : (p : ℕ) → is_to_be_read (slice_index l.words.items p) ≡ true → IsParent l.parents.items p;
+  only : (p : ℕ) → is_to_be_read (slice_index l.words.items p) ≡ true → IsParent l.reached.items l.parents.items p;
   to_read : (x : ℕ) → 2 < x → x < l.number → bool_at l.reached.items x ≡ true → 2 ≤ slice_index l.parents.items x →
       slice_index l.parents.items x < vec_len l.reached →
       is_to_be_read (slice_index l.words.items (slice_index l.parents.items x)) ≡ true;

@@ -1,9 +1,9 @@
-use Rattle.std.proofs.Common.{◌≡◌, ◌≢◌, ◌<◌, ◌≤◌, ◌==◌, ◌&&◌, nat_lt, List, ◌*◌, ◌+◌, ◌∙◌, false, true, suc, ℕ, ap, arith, below_more, length, refl}
+use Rattle.std.proofs.Common.{Bool, ◌≡◌, ◌≢◌, ◌<◌, ◌≤◌, ◌==◌, ◌&&◌, nat_lt, List, ◌*◌, ◌+◌, ◌∙◌, false, true, suc, ℕ, ap, arith, below_more, length, refl}
 use Rattle.std.proofs.{Common.{rules, slice_index, slice_set, sym}, lemmas.Grind.{common_steps, get_or_default_zero}}
 use Rattle.std.proofs.lemmas.{Bool.Decides.nat_tests, Result.err_from_is_err_and}
 use Rattle.ffs_volume.{proofs.Sizes.some_inodes, specs.{Blocks.Inodes.inodes_of, Costs.DirectoryReads.noted_directory_cost}}
 use Rattle.ffs_workspace.specs.declared.workspace.Workspace.{Workspace}
-use Rattle.ffs_volume.specs.Encodings.Places.{is_due as is_to_be_read, part_in}
+use Rattle.ffs_volume.specs.Encodings.{Lists.bool_at, Places.{is_due as is_to_be_read, part_in}}
 use Rattle.ffs_survey.proofs.Costs.{cost_take, costs_rise}
 use Rattle.ffs_volume.proofs.SearchLaws.{some_below-from}
 use Rattle.ffs_names.{specs.Noting.{BeginsNotes, IsParent, KeepsToRead, has_child}, proofs.PlacesNoted.{claims_noted, coming_end}}
@@ -16,15 +16,18 @@ use Rattle.ffs_names.proofs.places.note_places_unlimited.Goals as goal
 child_inside : (parents : List ℕ) (x : ℕ) → 2 ≤ slice_index parents x → x < length parents
 child_inside parents x some = grind (arith, common_steps)
 
-is_child : (root x parent d : ℕ) → root < x → parent ≡ d → (nat_lt root x && (parent == d)) ≡ true
-is_child root x parent d after is = grind (arith, common_steps, nat_tests)
+is_child : (reached : Bool) (root x parent d : ℕ) → root < x → reached ≡ true → parent ≡ d →
+    (nat_lt root x && (reached && (parent == d))) ≡ true
+is_child reached root x parent d after was is = grind (arith, common_steps, nat_tests)
 
 -- a parent has a child
-child_of : {parents : List ℕ} {d : ℕ} → IsParent parents d → has_child parents d ≡ true
-child_of {parents = parents} {d = d} p =
+child_of : {reached : List Bool} {parents : List ℕ} {d : ℕ} → IsParent reached parents d →
+    has_child reached parents d ≡ true
+child_of {reached = reached} {parents = parents} {d = d} p =
     let some : 2 ≤ slice_index parents p.child = rw p.parent_is p.from_root in
-    some_below-from (λ x. nat_lt 2 x && (slice_index parents x == d)) (length parents) p.child
-    (child_inside parents p.child some) (is_child 2 p.child (slice_index parents p.child) d p.after_root p.parent_is)
+    some_below-from (λ x. nat_lt 2 x && (bool_at reached x && (slice_index parents x == d))) (length parents) p.child
+    (child_inside parents p.child some) (is_child (bool_at reached p.child) 2 p.child (slice_index parents p.child) d
+    p.after_root p.is_reached p.parent_is)
 
 pub loop-dir-init : goal.loop-dir-init
 loop-dir-init g c =
@@ -79,12 +82,12 @@ loop-dir-preserved g c =
             low = omega arith;
             were_read = read_next old new.queue.items dir w.without_due.result inside w.without_due.ensures.due set_was_read
                 inv.were_read;
-            only = only_fewer first.parents.items old new.queue.items dir w.without_due.result inside
+            only = only_fewer first.reached.items first.parents.items old new.queue.items dir w.without_due.result inside
                 w.without_due.ensures.due set_was_read inv.only;
             reads = λ b k.
                 let is = parent_is_dir k.2 (inv.only dir unread) in
                 let took = noted.notes b (ap (λ d. d.contents) inv.same ∙ k.0, claims_noted lists k.1) is in
-                let more = cost_take (has_child first.parents.items) (noted_directory_cost v b) dir (child_of (inv.only dir unread)) in
+                let more = cost_take (has_child first.reached.items first.parents.items) (noted_directory_cost v b) dir (child_of (inv.only dir unread)) in
                 omega (arith, took.counted, more, inv.reads b k);
             places = λ b k.
                 let right = places_same v b old mid.queue.items same (inv.places b k) in
@@ -107,7 +110,7 @@ loop-dir-preserved g c =
                 (ap is_to_be_read (sym word) ∙ (sym c.is_due.ensures ∙ w.if-is_due.false));
             only = inv.only;
             reads = λ b k.
-                let more = costs_rise (has_child first.parents.items) (noted_directory_cost v b) dir (dir + 1) (omega arith) in
+                let more = costs_rise (has_child first.reached.items first.parents.items) (noted_directory_cost v b) dir (dir + 1) (omega arith) in
                 omega (arith, more, inv.reads b k);
             places = inv.places;
             noted = inv.noted;
@@ -180,6 +183,6 @@ returns-in_err-note_directory-clause-parents g c = λ b k.
     let took = (c.in_err-note_directory.ensures.notes b (ap (λ d. d.contents) inv.same ∙ k.0, claims_noted lists k.1)
     (parent_is_dir k.2 (inv.only dir unread))).counted in
     let child = child_of (inv.only dir unread) in
-    let more = cost_take (has_child first.parents.items) (noted_directory_cost v b) dir child in
-    let all = costs_rise (has_child first.parents.items) (noted_directory_cost v b) (dir + 1) (v.ncg * v.ipg) (omega arith) in
+    let more = cost_take (has_child first.reached.items first.parents.items) (noted_directory_cost v b) dir child in
+    let all = costs_rise (has_child first.reached.items first.parents.items) (noted_directory_cost v b) (dir + 1) (v.ncg * v.ipg) (omega arith) in
     omega (arith, took, more, all, inv.reads b k)

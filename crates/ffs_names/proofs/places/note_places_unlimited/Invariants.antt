@@ -14,10 +14,11 @@ invariant-loop-dir g l = let device = g.I.Image.device in
       ready : CanRead l.geometry.layout (device l.image) l.workspace;
       low : 2 ≤ l.dir;
       were_read : (x : ℕ) → x < l.dir → is_to_be_read (slice_index l.workspace.queue.items x) ≡ false;
-      only : OnlyParents l.fn.workspace.parents.items l.workspace.queue.items;
+      only : OnlyParents l.fn.workspace.reached.items l.fn.workspace.parents.items l.workspace.queue.items;
       reads : ForBytes known (λ b.
           g.I.Image.reads l.image ≤ g.I.Image.reads l.fn.image
-          + costs_below (has_child l.fn.workspace.parents.items) (noted_directory_cost l.geometry.layout b) l.dir);
+          + costs_below (has_child l.fn.workspace.reached.items l.fn.workspace.parents.items)
+          (noted_directory_cost l.geometry.layout b) l.dir);
       places : ForBytes known (λ b. AreParts l.geometry.layout b l.workspace.queue.items);
       noted : ForBytes known (λ b. AreComing l.geometry.layout b l.workspace.queue.items);
     }

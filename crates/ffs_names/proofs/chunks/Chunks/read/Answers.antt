@@ -1,7 +1,7 @@
 use Rattle.std.proofs.{Common.{◌∙◌, ◌+◌, ◌*◌, ap, arith}, lemmas.Grind.common_steps}
 use Rattle.std.proofs.lemmas.Result.{err_from_is_err_and}
 use Rattle.ffs_volume.specs.Disk.Numbers.{piece}
-use Rattle.ffs_names.proofs.{ReadCounts.given_one, RunChunks.cursor_step}
+use Rattle.ffs_names.proofs.{Advances.run_is_given, ReadCounts.given_one, RunChunks.cursor_step}
 use Rattle.ffs_names.proofs.chunks.Chunks.read.Goals as goal
 
 pub returns-clause-chunk : goal.returns-clause-chunk
@@ -63,6 +63,23 @@ pub returns-clause-steps : goal.returns-clause-steps
 returns-clause-steps g c = grind arith
 
 -- what is left
+pub returns-in_err-advance-clause-leaves : goal.returns-in_err-advance-clause-leaves
+returns-in_err-advance-clause-leaves g c =
+    let failed = c.in_err-advance.ensures in
+    let p = err_from_is_err_and c.from_residual.result c.from_residual.ensures.1 in
+    rw (p.1, p.2) (record {
+      same = failed.leaves.same;
+      runs = record {
+        rises = failed.leaves.same.runs;
+        each = tt;
+        fault = failed.continues;
+        chunk = λ more b t. absurd (run_is_given (failed.fault b) more);
+      };
+      ready = grind arith;
+      read = failed.leaves.read;
+      any = failed.leaves.any;
+    })
+
 pub returns-then-not-branch-clause-leaves : goal.returns-then-not-branch-clause-leaves
 returns-then-not-branch-clause-leaves g c = grind arith
 

@@ -132,7 +132,7 @@ returns-in-Some-clause-leaves g c =
         inside = λ before. rw same.chunks (i.inside before taken.place);
       };
       left = omega (arith, taken.left, i.left);
-      runs = rw same.chunks (record { rises = i.runs; each = i.each; fault = tt });
+      runs = rw same.chunks (record { rises = i.runs; each = i.each; fault = tt; chunk = tt });
       most = omega (arith, i.any);
       any = rw same.chunks (omega (arith, i.any));
     }
@@ -162,6 +162,8 @@ returns-in_err-next-clause-leaves g c =
           (i.each b t).most,
           (rw same at failed.runs.fault) b (ap (λ d. d.contents) i.device ∙ t),
         );
+        chunk = λ more b t. counts_more (i.each b t)
+            ((rw same at failed.runs.chunk) more b (ap (λ d. d.contents) i.device ∙ t));
       };
       most = omega (arith, failed.any, ap (λ x. most_steps_left x.walk) same, i.any);
       any = tt;
@@ -211,6 +213,7 @@ returns-in-None-2-clause-leaves g c =
         rises = omega (arith, next.runs.rises, ap (λ x. x.runs) same, i.runs);
         each = λ b t. counts_more (i.each b t) ((rw same at next.runs.each) b (ap (λ d. d.contents) i.device ∙ t));
         fault = tt;
+        chunk = tt;
       };
       most = omega (arith, next.any, ap (λ x. most_steps_left x.walk) same, i.any);
       any = omega (
