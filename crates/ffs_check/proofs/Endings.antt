@@ -116,7 +116,7 @@ module _ (had_defect : Bool) (knows : List ℕ → Type 0) (s : Superblock) (old
   ran (Ok root) p none_failed by_root e = whole root p none_failed by_root e
   ran (Err (Read fault)) p f by_root e =
       cut fault.sector p.prefix.messages p.rest p.prefix.right p.more p.prefix.said f e
-  ran (Err (Out fault)) p none_failed by_root e = part p.messages p.rest p.right p.told none_failed e.0 e.1
+  ran (Err (Out fault)) p none_failed by_root e = part p.messages p.rest p.right p.outcome none_failed e.0 e.1
 
 -- the report has its output still
 pub same_output : (knows : List ℕ → Type 0) (all : List ℕ → List Message) (had_defect : Bool) (a b c : Progress)
@@ -128,7 +128,7 @@ same_output knows all had_defect a b c (Err (Read fault)) end p e = elim e [
   | inr stopped ↦ stopped.0.output ∙ p.prefix.said.output
 ]
 same_output knows all had_defect a b c (Err (Out fault)) end p e =
-    ap (λ (x : Progress). x.output) e.0 ∙ p.told.output
+    ap (λ (x : Progress). x.output) e.0 ∙ p.outcome.output
 
 -- how the phases end is known where more is known
 pub ran_known : (knows known : List ℕ → Type 0) (s : Superblock) (old new : Moment) (end : End) → ForBytes knows known →

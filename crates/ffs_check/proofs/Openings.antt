@@ -8,7 +8,7 @@ use Rattle.ffs_volume.specs.Report.Opening.{fault_line, found_lines, head_lines,
 use Rattle.ffs_report.{specs.{Progress.{Progress, Said, Stopped}, Sink.Sink}, proofs.Reports.{said_then, stopped_after}}
 use Rattle.ffs_layout.specs.{declared.superblock.Super.Super, Super.{ReadsSuper, may_read_copy, superblock_in}}
 use Rattle.ffs_volume.specs.Report.Reads.{opening_reads}
-use Rattle.ffs_check.specs.{Moment.Moment, Opening.{IsWorkingAfter, OpeningOf, Opens, super_reads}}
+use Rattle.ffs_check.specs.{Moment.Moment, Opening.{IsWorkingAfter, OpeningOf, Opens, superblock_reads}}
 use Rattle.ffs_check.proofs.EndLaws.{broke_more, broke_off}
 
 -- what is found where nothing has been read
@@ -123,11 +123,11 @@ opened name sector s old head new fresh said more =
 
 -- a copy is read only where no sector is asked for
 pub super_read : (sector : Option ℕ) (found : Result Superblock SuperFault) (a b : ℕ) → b ≤ a + opening_reads →
-    (may_read_copy sector found ≡ false → b ≤ a + 1) → b ≤ a + super_reads sector
+    (may_read_copy sector found ≡ false → b ≤ a + 1) → b ≤ a + superblock_reads sector
 super_read None found a b most once = most
 super_read (Some at) found a b most once = once refl
 
-pub super_few : (sector : Option ℕ) (a b : ℕ) → b ≤ a + super_reads sector → b ≤ a + opening_reads
+pub super_few : (sector : Option ℕ) (a b : ℕ) → b ≤ a + superblock_reads sector → b ≤ a + opening_reads
 super_few None a b few = few
 super_few (Some at) a b few = omega (arith, few)
 

@@ -111,12 +111,12 @@ continues knows all report' (Ok x) at text = record {
 }
 continues knows all report' (Err (Read fault)) at text = record {
   messages = at.messages ++ text.messages;
-  says = said_then _ _ _ at.messages text.messages at.said text.told;
+  says = said_then _ _ _ at.messages text.messages at.said text.outcome;
   sections = longer phase1 [] at.messages text.messages at.sections;
 }
 continues knows all report' (Err (Out fault)) at text = record {
   messages = at.messages ++ text.messages;
-  says = stopped_after _ _ _ at.messages text.messages at.said text.told;
+  says = stopped_after _ _ _ at.messages text.messages at.said text.outcome;
   sections = longer phase1 [] at.messages text.messages at.sections;
 }
 

@@ -128,7 +128,7 @@ module _ (s : Superblock) where
                 e bytes known ∙ ap (λ (xs : List Message). xs ++ rest' bytes)
                 (sym (ran.text.right bytes (knows bytes known)))
                 ∙ append_assoc ran.text.messages (ran.text.rest bytes) (rest' bytes))
-                ran.text.told;
+                ran.text.outcome;
             more = λ bytes k. more_after (ran.text.rest bytes) (rest' bytes) (more bytes (given at bytes k));
           };
           goes = tt;
@@ -377,7 +377,7 @@ summary_ran s u report report' (Err (Out fault)) kept say image = record {
     messages = summary_of s say.files say.claimed ∷ [];
     rest = λ bytes. [];
     right = summary_right s u say.files say.claimed say.files_right say.claimed_right;
-    told = say.said;
+    outcome = say.said;
   };
 }
 

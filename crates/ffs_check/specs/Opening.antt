@@ -53,9 +53,9 @@ pub record OpeningOf (name : List ℕ) (asked_sector : Option ℕ) (old new : Mo
   pub ends : OpeningEnds name asked_sector old new found result
 
 -- how often an opening reads the image at most: the superblock, and its last copy where no sector is asked for
-abbrev pub super_reads : (asked_sector : Option ℕ) → ℕ
-super_reads None = opening_reads
-super_reads (Some sector) = 1
+abbrev pub superblock_reads : (asked_sector : Option ℕ) → ℕ
+superblock_reads None = opening_reads
+superblock_reads (Some sector) = 1
 
 -- an accepted volume lies within the image, and a superblock that can't be read is a failed read, or
 -- the image ends before it does. No more is read than the superblock, and its last copy
@@ -64,7 +64,7 @@ pub record AnswersOpening (asked_sector : Option ℕ) (old new : Moment) (result
       (λ super. FitsIn super.geometry.layout old.image.size)
       (λ end. (sector : ℕ) → end ≡ Refused (CannotRead sector)
       → IsUnreadable old.image new.image asked_sector sector)
-  pub reads : new.reads ≤ old.reads + super_reads asked_sector
+  pub reads : new.reads ≤ old.reads + superblock_reads asked_sector
 
 -- what the opening answers, and what went out of it
 pub record Opens (name : List ℕ) (asked_sector : Option ℕ) (old new : Moment) (result : Result Super End) : Type 0 where

@@ -31,7 +31,7 @@ stops knows rest rest' all ms a b c p e q = record {
   lines = p.lines ++ ms;
   rest = rest';
   right = λ bytes k. grind (arith, append_assoc, e bytes k, p.right bytes k);
-  told = rw (concat-append p.lines ms) (broke_off_after a b c (concat p.lines) (concat ms) p.took q);
+  outcome = rw (concat-append p.lines ms) (broke_off_after a b c (concat p.lines) (concat ms) p.took q);
 }
 
 -- all was printed at once
@@ -49,13 +49,13 @@ stops_all {knows} {all} {ms} e p = record {
   lines = ms;
   rest = λ bytes. [];
   right = λ bytes k. append-nil ms ∙ sym (e bytes k);
-  told = p;
+  outcome = p;
 }
 
 -- a read failed after some lines, and before anything was printed
 pub reads_after : {knows : List ℕ → Type 0} {rest all : List ℕ → List (List ℕ)} {a b : Sink} →
     PrintedTo knows rest all a b → FirstLines knows all (Took a b)
-reads_after {rest = rest} p = record { lines = p.lines; rest = rest; right = p.right; told = p.took }
+reads_after {rest = rest} p = record { lines = p.lines; rest = rest; right = p.right; outcome = p.took }
 
 pub reads_first : {knows : List ℕ → Type 0} {all : List ℕ → List (List ℕ)} {a : Sink} →
     FirstLines knows all (Took a a)
@@ -95,13 +95,13 @@ part_fault T E knows rest this rest' all a b c (Read fault) p e q = record {
   lines = p.lines ++ q.lines;
   rest = λ bytes. q.rest bytes ++ rest' bytes;
   right = part_right knows rest this rest' all q.rest p.lines q.lines p.right e q.right;
-  told = rw (concat-append p.lines q.lines) (took_then a b c (concat p.lines) (concat q.lines) p.took q.told);
+  outcome = rw (concat-append p.lines q.lines) (took_then a b c (concat p.lines) (concat q.lines) p.took q.outcome);
 }
 part_fault T E knows rest this rest' all a b c (Out fault) p e q = record {
   lines = p.lines ++ q.lines;
   rest = λ bytes. q.rest bytes ++ rest' bytes;
   right = part_right knows rest this rest' all q.rest p.lines q.lines p.right e q.right;
-  told = rw (concat-append p.lines q.lines) (broke_off_after a b c (concat p.lines) (concat q.lines) p.took q.told);
+  outcome = rw (concat-append p.lines q.lines) (broke_off_after a b c (concat p.lines) (concat q.lines) p.took q.outcome);
 }
 
 -- ---- whether there was a line
@@ -154,7 +154,7 @@ first_knowing more p = record {
   lines = p.lines;
   rest = p.rest;
   right = λ bytes k. p.right bytes (more bytes k).0 ∙ (more bytes k).1;
-  told = p.told;
+  outcome = p.outcome;
 }
 
 -- where more is known

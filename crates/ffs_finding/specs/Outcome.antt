@@ -12,14 +12,14 @@ pub record PrintedTo (knows : List ℕ → Type 0) (rest all : List ℕ → List
   pub right : ForBytes knows (λ bytes. lines ++ rest bytes ≡ all bytes)
   pub took : Took old new (concat lines)
 
--- the bytes of the first ones of these lines, perhaps of all of them, were taken, or the output failed in them: as
--- `IsTold` has it
-pub record FirstLines (knows : List ℕ → Type 0) (all : List ℕ → List (List ℕ)) (IsTold : List ℕ → Type 0) : Type 0
+-- the first ones of these lines, perhaps all of them, and what became of their bytes: they were taken, or the output
+-- failed in them
+pub record FirstLines (knows : List ℕ → Type 0) (all : List ℕ → List (List ℕ)) (IsOutcome : List ℕ → Type 0) : Type 0
   where
     pub lines : List (List ℕ)
     pub rest : List ℕ → List (List ℕ)
     pub right : ForBytes knows (λ bytes. lines ++ rest bytes ≡ all bytes)
-    pub told : IsTold (concat lines)
+    pub outcome : IsOutcome (concat lines)
 
 -- all lines at Ok, whole ones at a read's fault, a prefix of their bytes at a fault of the output
 abbrev pub PrintsLines : {T : Type 0} → (List ℕ → Type 0) → (List ℕ → List (List ℕ)) → (old new : Sink) →

@@ -103,4 +103,4 @@ pub paid_text : {T : Type 0} {price : ℕ} (knows : List ℕ → Type 0) (all : 
     Paid price a b before after r
 paid_text knows all {b = b} (Ok x) p few = grind arith
 paid_text knows all {b = b} (Err (Read fault)) p few = grind arith
-paid_text knows all (Err (Out fault)) p few = stops_paid p.messages p.told (λ n _. omega (arith, few))
+paid_text knows all (Err (Out fault)) p few = stops_paid p.messages p.outcome (λ n _. omega (arith, few))

@@ -50,13 +50,13 @@ of_stops knows rest rest' all ms a b c p e q = record {
   messages = p.messages ++ ms;
   rest = rest';
   right = λ bytes k. grind (arith, append_assoc, e bytes k, p.right bytes k);
-  told = stopped_after a b c p.messages ms p.said q;
+  outcome = stopped_after a b c p.messages ms p.said q;
 }
 
 pub of_reads : {knows : List ℕ → Type 0} {rest all : List ℕ → List Message} {a b : Progress} → SaidOf knows rest all a b
     → FirstMessages knows all (Said a b)
 of_reads {knows} {rest} {all} {a} {b} p =
-    record { messages = p.messages; rest = rest; right = p.right; told = p.said }
+    record { messages = p.messages; rest = rest; right = p.right; outcome = p.said }
 
 -- all was said at once, or nothing is to come, and the output failed among all
 pub says_all : {knows : List ℕ → Type 0} {all : List ℕ → List Message} {ms : List Message} {a b : Progress} →
@@ -73,7 +73,7 @@ stops_all {knows} {all} {ms} e p = record {
   messages = ms;
   rest = λ bytes. [];
   right = λ bytes k. append-nil ms ∙ sym (e bytes k);
-  told = p;
+  outcome = p;
 }
 
 -- a read failed before anything was said
@@ -89,7 +89,7 @@ says_heading {m = m} e p = grind arith
 pub stops_heading : {knows : List ℕ → Type 0} {lines : List ℕ → List Message} {m : Message} {a b : Progress} →
     Stopped a b (m ∷ []) → FirstMessages knows (λ bytes. m ∷ lines bytes) (Stopped a b)
 stops_heading {lines = lines} {m = m} p =
-    record { messages = m ∷ []; rest = lines; right = λ bytes k. refl; told = p }
+    record { messages = m ∷ []; rest = lines; right = λ bytes k. refl; outcome = p }
 
 -- what is to come has changed its form
 pub of_same : {knows : List ℕ → Type 0} {rest rest' all : List ℕ → List Message} {a b : Progress} →
@@ -121,13 +121,13 @@ of_fault T E knows rest part rest' all a b c (Read fault) p e q = record {
   messages = p.messages ++ q.messages;
   rest = λ bytes. q.rest bytes ++ rest' bytes;
   right = part_right knows rest part rest' all q.rest p.messages q.messages p.right e q.right;
-  told = said_then a b c p.messages q.messages p.said q.told;
+  outcome = said_then a b c p.messages q.messages p.said q.outcome;
 }
 of_fault T E knows rest part rest' all a b c (Out fault) p e q = record {
   messages = p.messages ++ q.messages;
   rest = λ bytes. q.rest bytes ++ rest' bytes;
   right = part_right knows rest part rest' all q.rest p.messages q.messages p.right e q.right;
-  told = stopped_after a b c p.messages q.messages p.said q.told;
+  outcome = stopped_after a b c p.messages q.messages p.said q.outcome;
 }
 
 -- the outcome of a phase's last part
@@ -192,5 +192,5 @@ pub heading_part : {T U : Type 0} {heading : Message} (knows : List ℕ → Type
     {a b c : Progress} {x : T} (r : Result U RunFault) → HeadingFirst heading a b (Ok x) →
     PhaseReports knows part b c r → HeadingFirst heading a c r
 heading_part knows part (Ok y) p q = heading_then q.messages p q.said
-heading_part knows part (Err (Read fault)) p q = heading_reads (heading_then {y = tt {0}} q.messages p q.told)
-heading_part knows part (Err (Out fault)) p q = heading_stops q.messages p q.told
+heading_part knows part (Err (Read fault)) p q = heading_reads (heading_then {y = tt {0}} q.messages p q.outcome)
+heading_part knows part (Err (Out fault)) p q = heading_stops q.messages p q.outcome

@@ -26,13 +26,14 @@ pub record SaidOf (knows : List ℕ → Type 0) (rest all : List ℕ → List Me
   pub right : ForBytes knows (λ bytes. messages ++ rest bytes ≡ all bytes)
   pub said : Said old new messages
 
--- the first ones of these messages, perhaps all of them, were said, or the output failed among them: as `IsTold` has it
-pub record FirstMessages (knows : List ℕ → Type 0) (all : List ℕ → List Message) (IsTold : List Message → Type 0) :
+-- the first ones of these messages, perhaps all of them, and what became of them: they were said, or the output failed
+-- among them
+pub record FirstMessages (knows : List ℕ → Type 0) (all : List ℕ → List Message) (IsOutcome : List Message → Type 0) :
     Type 0 where
   pub messages : List Message
   pub rest : List ℕ → List Message
   pub right : ForBytes knows (λ bytes. messages ++ rest bytes ≡ all bytes)
-  pub told : IsTold messages
+  pub outcome : IsOutcome messages
 
 -- all messages at Ok, whole ones at a read's fault, a prefix of their bytes at a fault of the output
 abbrev pub PhaseReports : {T : Type 0} → (List ℕ → Type 0) → (List ℕ → List Message) → (old new : Progress) →

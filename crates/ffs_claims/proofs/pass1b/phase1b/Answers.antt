@@ -36,7 +36,7 @@ said_of_spent : {T : Type 0} {d d' : Device} (knows knows' : List ℕ → Type 0
 said_of_spent knows knows' all a b (Ok x) same moved never p = absurd (moved same)
 said_of_spent knows knows' all a b (Err (Out fault)) same moved never p = absurd (moved same)
 said_of_spent knows knows' all a b (Err (Read fault)) same moved never p =
-    record { messages = p.messages; right = λ bytes k. absurd (never bytes k); said = p.told }
+    record { messages = p.messages; right = λ bytes k. absurd (never bytes k); said = p.outcome }
 
 -- and the heading first
 heading_spent : {T : Type 0} {d d' : Device} {heading : Message} {a b : Progress} {x : T} (r : Result T RunFault) →

@@ -48,7 +48,7 @@ returns-in_err-of_layout-clause-prints g c =
           right = λ b k. first s c.args.sector c.from-start.result at b c.read_at.new.buf
               (super_read c.from-start.result c.args.sector b c.read_at.new.buf at (search rules)
               (c.in_ok-read_at.ensures.bytes.bytes b k.0)) c.layout_fields.result c.layout_fields.ensures;
-          told = c.in_err-of_layout.ensures.text;
+          outcome = c.in_err-of_layout.ensures.text;
         };
       };
       any = tt;
@@ -71,7 +71,7 @@ returns-in_err-of_totals-clause-prints g c =
               (super_read c.from-start.result c.args.sector b c.read_at.new.buf at (search rules)
               (c.in_ok-read_at.ensures.bytes.bytes b k.0)) c.layout_fields.result c.layout_fields.ensures
               c.total_fields.result c.total_fields.ensures;
-          told = rw (concat-append xs ys)
+          outcome = rw (concat-append xs ys)
               (broke_off_after _ _ _ (concat xs) (concat ys) c.in_ok-of_layout.ensures.text
               c.in_err-of_totals.ensures.text);
         };
