@@ -47,8 +47,8 @@ pub record OffersReportedOnly (v : Layout) (old new : Workspace) : Type 0 where
   pub reporting : ReportsOnly v old new
   pub runs : new.runs_again ≡ old.runs_again
 
--- as many fragments stop being to report as messages were said whole after the headings. A fragment whose line the output
--- failed in is to be reported still
+-- as many fragments stop being to report as messages were said whole, beside so many headings that came first.
+-- After them a last message was begun, or none: a fragment whose line the output failed in is to be reported still
 pub record ClearsAsSaid {T : Type 0} (headings : ℕ) (old new : ClaimMoment) (result : Result T RunFault) : Type 0 where
   pub messages : List Message
   pub last : List Message
