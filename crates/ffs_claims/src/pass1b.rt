@@ -8,8 +8,9 @@ ghost use Rattle.ffs_report.specs.Progress.{progress};
 ghost use Rattle.ffs_volume.specs.Messages.Kinds as messages;
 ghost use Rattle.ffs_workspace.specs.{Found.WithPhase1, Ready.IsReady};
 ghost use Rattle.ffs_claims.specs.Moments.{after_one_read, claim_moment, phase_moment};
-ghost use Rattle.ffs_claims.specs.{Phases.{IsLeftByPhase1b, Phase1bReads}, Reporting.{CanRewalk, ClearsAsSaid, Phase1bKeeps}};
-ghost use Rattle.ffs_claims.specs.Phases.{GoesOverOffers, Phase1bReadsUnlimited, WithNotes, phase1b_messages_for};
+ghost use Rattle.ffs_claims.specs.Phases.{GoesOverOffers, IsLeftByPhase1b, Phase1bReads, Phase1bReadsUnlimited};
+ghost use Rattle.ffs_claims.specs.Phases.{WithNotes, phase1b_messages_for};
+ghost use Rattle.ffs_claims.specs.Reporting.{CanRewalk, ClearsAsSaid, Phase1bKeeps};
 ghost use Rattle.ffs_maps.specs.Bits.{bits_of};
 ghost use Rattle.ffs_claims.specs.RescanRuns.{RereadsByBlock, Rewalks};
 
