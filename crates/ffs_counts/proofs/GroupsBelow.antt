@@ -5,9 +5,7 @@ use Rattle.ffs_volume.specs.declared.{Layout.Layout, BlockMessage.BlockMessage}
 use Rattle.ffs_volume.specs.{Blocks.{Claims.all_claims, Owners.owners_of}, Directories.Volumes.class_at}
 use Rattle.ffs_volume.specs.Groups.GroupCheck.{AlreadyReported, group_lines, is_free_of_kept, note_reported, reported_once}
 use Rattle.ffs_volume.specs.{Groups.GroupCheck.unreported, Messages.Kinds.{Message, of_blocks, phase5}}
-use Rattle.ffs_image.specs.Known.{ForBytes}
 use Rattle.ffs_groups.specs.{Free.free_in, Inodes.class_in}
-use Rattle.ffs_report.{specs.{PhaseOutcome.SaidOf, Progress.{Progress, Said}}, proofs.Reports.said_then}
 use Rattle.ffs_workspace.specs.{declared.workspace.Workspace.Workspace, Holds.HoldsBlockCheck}
 use Rattle.ffs_counts.specs.{BeforeFault.{lines_below_group, messages_before_group}, Once.reported_after}
 use Rattle.ffs_counts.proofs.{Classes.group_by_kinds, GroupText.{free_of, sifted_append}}
@@ -73,13 +71,3 @@ pub before_next : (v : Layout) (image : List ℕ) (t : AlreadyReported) (lines :
 before_next v image t lines c is before =
     ap (λ (ls : List BlockMessage). phase5 ∷ map of_blocks (reported_once unreported ls)) (below_next v image lines c is)
     ∙ ap (λ (ms : List Message). phase5 ∷ ms) (sifted_append unreported t (lines_below_group v c image) lines before)
-
--- all that was due was said, and more is due and was said
-pub said_more : {knows : List ℕ → Type 0} {all all' : List ℕ → List Message} {ms : List Message} {a b c : Progress} →
-    SaidOf knows (λ bytes. []) all a b → ForBytes knows (λ bytes. all' bytes ≡ all bytes ++ ms) → Said b c ms →
-    SaidOf knows (λ bytes. []) all' a c
-said_more {knows} {all} {all'} {ms} {a} {b} {c} p e q = record {
-  messages = p.messages ++ ms;
-  right = λ bytes k. grind (arith, append-nil, e bytes k, p.right bytes k);
-  said = said_then a b c p.messages ms p.said q;
-}

@@ -3,5 +3,7 @@ pub mod ReservedCount
 pub mod Classes
 pub mod GroupText
 pub mod GroupsBelow
+pub mod SaidMore
 pub mod Holding
+pub mod InodesBelow
 pub mod GroupReads

@@ -9,9 +9,10 @@ use Rattle.ffs_workspace.specs.Found.{WithBlockCheck}
 use Rattle.ffs_counts.{specs.Once.{reported_of, reported_after}, proofs.GroupText.{counts_held, free_of, groups_begin}}
 use Rattle.ffs_counts.proofs.GroupText.{groups_go_on, groups_end, lines_after, totals_next, totals_right, up_next}
 use Rattle.ffs_counts.proofs.{GroupReads.{reads_next, records_next}, Holding.held_on}
-use Rattle.ffs_counts.proofs.GroupsBelow.{before_next, group_held, once_next, said_more}
+use Rattle.ffs_counts.proofs.GroupsBelow.{before_next, group_held, once_next}
 use Rattle.ffs_volume.specs.{Blocks.Owners.owners_of, Directories.Volumes.class_at}
 use Rattle.ffs_volume.specs.Groups.GroupCheck.{group_lines, is_free_of_kept}
+use Rattle.ffs_counts.proofs.SaidMore.{said_more}
 use Rattle.ffs_counts.proofs.pass5.phase5.Goals.{After-agree_with-right, In_ok-found}
 use Rattle.ffs_counts.proofs.pass5.phase5.Given as given
 use Rattle.ffs_counts.proofs.pass5.phase5.Goals as goal
