@@ -53,6 +53,14 @@ by_kinds v image totals free kinds e = same_phase5 v free (class_in kinds) (clas
     (λ x. rw (e x) (same_test is_directory refl v image x)) (λ x. rw (e x) (same_test is_allocated refl v image x))
     image totals
 
+-- the lines of a group, by these kinds
+pub group_by_kinds : (v : Layout) (image : List ℕ) (free : ℕ → Bool) (kinds : List ℕ) →
+    ((x : ℕ) → slice_index kinds x ≡ kind_at v image x) → (c : ℕ) →
+    group_lines v image free (class_in kinds) c ≡ group_lines v image free (class_at v image) c
+group_by_kinds v image free kinds e = same_group v free (class_in kinds) (class_at v image)
+    (λ x. rw (e x) (same_test is_directory refl v image x)) (λ x. rw (e x) (same_test is_allocated refl v image x))
+    image
+
 -- how many files and directories there are, by the kinds that a workspace holds
 pub files_are : (v : Layout) (image kinds : List ℕ) (files n : ℕ) →
     files ≡ count_by (λ x. is_file_or_dir (class_in kinds x)) (range_with_len 2 (n - 2)) → n ≡ v.ncg * v.ipg →

@@ -26,7 +26,7 @@ once_append t (m ∷ xs) ys = grind (arith, once_append t xs ys, once_append (no
 abbrev sifted : AlreadyReported → List BlockMessage → List Message
 sifted t ms = map of_blocks (reported_once t ms)
 
-sifted_append : (t t' : AlreadyReported) (xs ys : List BlockMessage) → t' ≡ reported_after t xs →
+pub sifted_append : (t t' : AlreadyReported) (xs ys : List BlockMessage) → t' ≡ reported_after t xs →
     sifted t (xs ++ ys) ≡ sifted t xs ++ sifted t' ys
 sifted_append t t' xs ys e = grind (arith, once_append, map-append)
 

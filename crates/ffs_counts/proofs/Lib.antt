@@ -2,5 +2,8 @@ pub mod RecordPlaces
 pub mod ReservedCount
 pub mod Classes
 pub mod GroupText
+pub mod GroupsBelow
+pub mod SaidMore
 pub mod Holding
+pub mod InodesBelow
 pub mod GroupReads

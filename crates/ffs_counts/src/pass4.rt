@@ -10,6 +10,7 @@ ghost use Rattle.ffs_report.specs.Progress.{progress};
 ghost use Rattle.ffs_volume.specs.Messages.Kinds as messages;
 ghost use Rattle.ffs_workspace.specs.{Found.WithFindings, Ready.{IsReady, KeepsWindows}, Tables.IsTableSector};
 ghost use Rattle.ffs_counts.specs.{Ready.{CanCheckAllocated, HasElements, AreUnallocated, AreUnallocatedFrom}, References.is_dead_by};
+ghost use Rattle.ffs_counts.specs.BeforeFault.{FailsBeforeLine, SaidBeforeInode};
 ghost use Rattle.ffs_counts.specs.{References.{is_right_by}, Skipped.{AreRightFrom, AreSkippedFrom, CanSkipFrom}};
 ghost use Rattle.ffs_survey.specs.Survey.{suspect_at};
 ghost use Rattle.ffs_volume.specs.declared.constants.TheConstants as constants;
@@ -180,6 +181,10 @@ fn report_references<I: Image, W: Output>(
     ensures paid { Paid 1 (progress W.sink report.old) (progress W.sink report.new)
         (I.reads image.old) (I.reads image.new) result }
     ensures sector { FailsIn (IsTableSector geometry.now.layout) result }
+
+    // A read that failed is of the inode's own block, and nothing was said.
+    ensures before_fault { FailsIn (FailsBeforeLine geometry.now.layout number
+        (progress W.sink report.old) (progress W.sink report.new)) result }
     ensures stays { KeepsWindows geometry.now.layout (I.device image.new) workspace.old
         workspace.new }
 {
@@ -232,6 +237,11 @@ pub fn phase4<I: Image, W: Output>(
 
     // A read that failed is of a block of the inode table.
     ensures sector { FailsIn (IsTableSector geometry.now.layout) result }
+
+    // All that is due before an inode of that block was said.
+    ensures before_fault { FailsIn (SaidBeforeInode
+        (WithFindings geometry.now.layout (I.device image.old) workspace.old) geometry.now.layout
+        (progress W.sink report.old) (progress W.sink report.new)) result }
     ensures ready { IsReady geometry.now.layout (I.device image.new) workspace.new }
 {
     workspace.forget_windows();

@@ -5,7 +5,7 @@ ghost use Rattle.ffs_volume.specs.Report.{Reads.group_reads, Whole.phase5_messag
 ghost use Rattle.ffs_layout.specs.Super.{superblock_in};
 ghost use Rattle.ffs_report.specs.{Progress.progress, Fails.FailsIn, PhaseOutcome.{HeadingFirst, ImageAfter}};
 ghost use Rattle.ffs_report.specs.PhaseOutcome.{PhaseReports};
-ghost use Rattle.ffs_counts.specs.Records.{IsGroupSector};
+ghost use Rattle.ffs_counts.specs.{BeforeFault.SaidBeforeGroup, Records.IsGroupSector};
 ghost use Rattle.ffs_workspace.specs.{Found.WithBlockCheck, Ready.IsReady};
 ghost use Rattle.ffs_volume.specs.Messages.Kinds as messages;
 
@@ -47,6 +47,12 @@ pub fn phase5<I: Image, W: Output>(
 
     // A read that failed is of the block of a group, or of summary records.
     ensures sector { FailsIn (IsGroupSector superblock.now.geometry.layout) result }
+
+    // All that is due before the group of that block, or of these records, was said.
+    ensures before_fault { FailsIn (SaidBeforeGroup
+        (WithBlockCheck superblock.now.geometry.layout (I.device image.old) workspace.old)
+        superblock.now.geometry.layout (progress W.sink report.old) (progress W.sink report.new))
+        result }
     ensures ready { IsReady superblock.now.geometry.layout (I.device image.new) workspace.new }
 {
     workspace.forget_windows();

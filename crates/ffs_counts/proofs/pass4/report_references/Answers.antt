@@ -8,6 +8,7 @@ use Rattle.ffs_report.proofs.Reporting.{reads_first, says_all, says_none, stops_
 use Rattle.ffs_workspace.{specs.{Found.WithFindings, Ready.KeepsWindows}, proofs.{Readiness.can_read_table, TablePlaces.fails_in_table}}
 use Rattle.ffs_counts.{specs.References.lines_as, proofs.Holding.{inode_reference_lines_are, item_at, met_lines}}
 use Rattle.ffs_counts.proofs.Holding.{same_reported, some_lines, unmet_line, unmet_reported}
+use Rattle.ffs_counts.proofs.InodesBelow.{fails_in_block}
 use Rattle.ffs_counts.proofs.pass4.report_references.Goals.{After-inode}
 use Rattle.ffs_counts.proofs.pass4.report_references.Goals.{After-line_for-line, In_ok-inode}
 use Rattle.ffs_counts.proofs.pass4.report_references.Given as given
@@ -45,6 +46,7 @@ returns-then-is_right g c = record {
       c.requires.allocated (sym c.is_right.ensures ∙ c.if-is_right.true)));
   reads = λ bytes k. omega arith;
   sector = tt;
+  before_fault = tt;
   paid = paid_none (omega arith);
   stays = search rules;
 }
@@ -58,6 +60,7 @@ returns-in_err-inode g c = record {
       omega (arith, line, c.in_err-inode.ensures.inode.counted);
   paid = grind (arith, err_from_is_err_and, paid_reads);
   sector = grind (arith, err_from_is_err_and, fails_in_table);
+  before_fault = grind (arith, err_from_is_err_and, fails_in_block);
   stays = grind (arith, can_read_table);
 }
 
@@ -72,6 +75,7 @@ returns-in_err-say_if_any g c =
           let line = one g at.After-inode bytes k in
           omega (arith, line, c.in_ok-inode.ensures.inode.counted);
       sector = tt;
+      before_fault = tt;
       paid = paid_stops _ c.in_err-say_if_any.ensures (some g at.After-line_for-line) c.in_ok-inode.ensures.inode.counted;
       stays = stays g at.In_ok-inode;
     })
@@ -86,6 +90,7 @@ returns g c =
           let line = one g at.After-inode bytes k in
           omega (arith, line, c.in_ok-inode.ensures.inode.counted);
       sector = tt;
+      before_fault = tt;
       paid = paid_says _ c.in_ok-say_if_any.ensures (some g at.After-line_for-line) c.in_ok-inode.ensures.inode.counted;
       stays = stays g at.In_ok-inode;
     }

@@ -2,13 +2,17 @@ use Rattle.std.proofs.{Common.{◌≡◌, ◌∙◌, ◌+◌, ◌++◌, [], ap, 
 use Rattle.ffs_volume.specs.{declared.BlockMessage.TheVariants.FreeCounts, Groups.GroupCheck.AlreadyReported}
 use Rattle.ffs_volume.specs.{Groups.GroupCheck.{reported_once, unless}, Messages.Kinds.of_blocks}
 use Rattle.ffs_groups.specs.{Check.lines_of, Inodes.class_in}
-use Rattle.ffs_report.proofs.Reporting.{of_says, of_stops, of_reads, says_heading}
+use Rattle.ffs_report.proofs.Reporting.{of_says, of_stops, of_reads, says_all, says_heading}
 use Rattle.ffs_image.specs.Known.{ForBytes}
 use Rattle.ffs_report.proofs.Reporting.{heading_alone, heading_then, stops_heading}
 use Rattle.ffs_workspace.specs.Found.{WithBlockCheck}
 use Rattle.ffs_counts.{specs.Once.{reported_of, reported_after}, proofs.GroupText.{counts_held, free_of, groups_begin}}
 use Rattle.ffs_counts.proofs.GroupText.{groups_go_on, groups_end, lines_after, totals_next, totals_right, up_next}
 use Rattle.ffs_counts.proofs.{GroupReads.{reads_next, records_next}, Holding.held_on}
+use Rattle.ffs_counts.proofs.GroupsBelow.{before_next, group_held, once_next}
+use Rattle.ffs_volume.specs.{Blocks.Owners.owners_of, Directories.Volumes.class_at}
+use Rattle.ffs_volume.specs.Groups.GroupCheck.{group_lines, is_free_of_kept}
+use Rattle.ffs_counts.proofs.SaidMore.{said_more}
 use Rattle.ffs_counts.proofs.pass5.phase5.Goals.{After-agree_with-right, In_ok-found}
 use Rattle.ffs_counts.proofs.pass5.phase5.Given as given
 use Rattle.ffs_counts.proofs.pass5.phase5.Goals as goal
@@ -28,6 +32,20 @@ gone_on g c once' noted bytes k =
     c.read_group.new.workspace bytes _ once' _ c.loop-group.group c.loop-group-test.true
     (held_on c.args.workspace.now c.loop-group.workspace _ inv.stays.held c.in_ok-found.ensures.stays.held)
     (c.in_ok-found.ensures.found.lines bytes (ap (λ d. d.contents) inv.device ∙ k.0)) noted
+
+-- what was found of a group gives its lines
+found_lines : (g : given.Over) (c : In_ok-found g) →
+    ForBytes (WithBlockCheck c.args.superblock.now.geometry.layout (g.I.Image.device c.args.image.now) c.args.workspace.now)
+    (λ bytes. lines_of c.in_ok-found.found c.loop-group.group
+    ≡ group_lines c.args.superblock.now.geometry.layout bytes
+    (is_free_of_kept c.args.superblock.now.geometry.layout (owners_of c.args.superblock.now.geometry.layout bytes))
+    (class_at c.args.superblock.now.geometry.layout bytes) c.loop-group.group)
+found_lines g c bytes k =
+    let inv = c.loop-group.invariant in
+    group_held c.args.superblock.now.geometry.layout c.args.workspace.now c.read_group.new.workspace bytes _
+    c.loop-group.group k.1
+    (held_on c.args.workspace.now c.loop-group.workspace _ inv.stays.held c.in_ok-found.ensures.stays.held)
+    (c.in_ok-found.ensures.found.lines bytes (ap (λ d. d.contents) inv.device ∙ k.0))
 
 -- the lines after the last group
 ended : (g : given.Over) (c : After-agree_with-right g) →
@@ -53,12 +71,22 @@ pub loop-group-init : goal.loop-group-init
 loop-group-init g c =
     let v = c.args.superblock.now.geometry.layout in
     let can = c.forget_windows.ensures.forgets v (g.I.Image.device c.args.image.now) c.requires.ready in
-    grind (arith, says_heading, groups_begin, heading_alone)
+    grind (arith, says_heading, says_all, groups_begin, heading_alone)
 
 pub returns-in_err-found-clause-text : goal.returns-in_err-found-clause-text
 returns-in_err-found-clause-text g c =
     let p = err_from_is_err_and c.from_residual-in_err-found.result c.from_residual-in_err-found.ensures.1 in
     rw (p.1, p.2) (of_reads c.loop-group.invariant.said)
+
+pub returns-in_err-found-clause-before_fault : goal.returns-in_err-found-clause-before_fault
+returns-in_err-found-clause-before_fault g c =
+    let p = err_from_is_err_and c.from_residual-in_err-found.result c.from_residual-in_err-found.ensures.1 in
+    rw (p.1, p.2) (record {
+      group = c.loop-group.group;
+      low = c.loop-group-test.true;
+      failed = c.in_err-found.ensures.found.sector;
+      said = c.loop-group.invariant.before;
+    })
 
 pub returns-in_err-say_group-clause-text : goal.returns-in_err-say_group-clause-text
 returns-in_err-say_group-clause-text g c =
@@ -90,6 +118,12 @@ loop-group-preserved g c =
           counts.ensures.summary);
       said = of_says inv.said
           (gone_on g (goal.at.loop-group-preserved g c).In_ok-found _ c.in_ok-say_group.ensures.reported)
+          c.in_ok-say_group.ensures.said;
+      once = λ bytes k. once_next v bytes _ _ _ n (found_lines g (goal.at.loop-group-preserved g c).In_ok-found bytes k)
+          (inv.once bytes k) c.in_ok-say_group.ensures.reported;
+      before = said_more inv.before
+          (λ bytes k. before_next v bytes _ _ n (found_lines g (goal.at.loop-group-preserved g c).In_ok-found bytes k)
+          (inv.once bytes k))
           c.in_ok-say_group.ensures.said;
       heading = heading_then _ inv.heading c.in_ok-say_group.ensures.said;
     }
