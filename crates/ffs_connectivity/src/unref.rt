@@ -9,7 +9,7 @@ ghost use Rattle.ffs_workspace.specs.{Found.WithSurvey, Ready.KeepsWindows, Tabl
 ghost use Rattle.ffs_volume.specs.Directories.Connectivity.{unref_dir_lines};
 ghost use Rattle.ffs_volume.specs.{declared.Layout.Layout, Blocks.Inodes.inodes_of};
 ghost use Rattle.ffs_workspace.specs.Lengths.{IsFor};
-ghost use Rattle.ffs_connectivity.specs.Phase3.{CanReportUnref, is_unref_by};
+ghost use Rattle.ffs_connectivity.specs.{Faults.FailsBeforeLine, Phase3.{CanReportUnref, is_unref_by}};
 
 use ffs_image::Image;
 use ffs_layout::Geometry;
@@ -71,6 +71,11 @@ pub fn report_unref<I: Image, W: Output>(
         (λ bytes. I.reads image.new ≤ I.reads image.old + length
         (unref_dir_lines (volume_of geometry.now.layout bytes) number)) }
     ensures sector { FailsIn (IsTableSector geometry.now.layout) result }
+
+    // A read that failed is of this inode, before its line is said.
+    ensures before { FailsIn (FailsBeforeLine geometry.now.layout
+        (WithSurvey geometry.now.layout (I.device image.old) workspace.old) number
+        (progress W.sink report.old) (progress W.sink report.new)) result }
     ensures paid { Paid 1 (progress W.sink report.old) (progress W.sink report.new)
         (I.reads image.old) (I.reads image.new) result }
     ensures stays { KeepsWindows geometry.now.layout (I.device image.new) workspace.old

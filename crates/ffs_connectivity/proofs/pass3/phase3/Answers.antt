@@ -9,7 +9,7 @@ use Rattle.ffs_workspace.{specs.{Found.WithSurvey, declared.workspace.Workspace.
 use Rattle.ffs_volume.specs.Blocks.Inodes.{inodes_of}
 use Rattle.ffs_workspace.proofs.Leaving.{claims_left, survey_left, leaves_more, windows_leave}
 use Rattle.ffs_volume.specs.Directories.Connectivity.{unref_dir_lines}
-use Rattle.ffs_connectivity.proofs.UnrefLines.{leaders_held, lines_after, lines_begin}
+use Rattle.ffs_connectivity.{specs.Faults.lines_after, proofs.UnrefLines.{fails_after, leaders_held, lines_begin}}
 use Rattle.ffs_connectivity.proofs.pass3.phase3.Goals.{At-loop-number}
 use Rattle.ffs_connectivity.proofs.pass3.phase3.Given as given
 use Rattle.ffs_connectivity.proofs.pass3.phase3.Goals as goal
@@ -124,3 +124,10 @@ returns-in_err-report_unref-clause-leaves g c = grind arith
 
 pub returns-in_err-report_unref-clause-heading : goal.returns-in_err-report_unref-clause-heading
 returns-in_err-report_unref-clause-heading g c = grind (arith, err_from_is_err_and, heading_part)
+
+pub returns-in_err-report_unref-clause-said : goal.returns-in_err-report_unref-clause-said
+returns-in_err-report_unref-clause-said g c =
+    let p = err_from_is_err_and c.from_residual-in_err-report_unref.result c.from_residual-in_err-report_unref.ensures.1 in
+    let more = known g (goal.at.returns-in_err-report_unref-clause-said g c).At-loop-number in
+    rw (p.1, p.2) (fails_after (Unit {0}) (Unit {0}) _ _ _ _ _ _ _ c.in_err-report_unref.field-0.0 (omega arith)
+    c.loop-number.invariant.said more c.in_err-report_unref.ensures.before)

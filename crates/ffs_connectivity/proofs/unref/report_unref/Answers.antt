@@ -1,11 +1,12 @@
-use Rattle.std.proofs.{Common.{◌≡◌, ◌∷◌, [], map, refl, ◌∙◌, arith, rules, true}, lemmas.Result.err_from_is_err_and}
+use Rattle.std.proofs.{Common.{◌≡◌, ◌∷◌, [], map, refl, ◌∙◌, arith, rules, true, Err}, lemmas.Result.err_from_is_err_and}
 use Rattle.ffs_volume.specs.{Directories.{Connectivity.is_unref_dir, Volumes.volume_of}, Messages.Kinds.of_tree}
+use Rattle.ffs_report.specs.Progress.{progress}
 use Rattle.ffs_report.proofs.Paying.{paid_none, paid_reads, paid_stops}
 use Rattle.ffs_image.specs.Known.{ForBytes}
 use Rattle.ffs_report.proofs.Reporting.{reads_first, says_none, stops_all}
 use Rattle.ffs_workspace.{specs.Found.WithSurvey, proofs.TablePlaces.fails_in_table}
 use Rattle.ffs_volume.specs.Directories.Connectivity.{unref_dir_lines}
-use Rattle.ffs_connectivity.proofs.{UnrefLaws.unref_held, UnrefLines.{attributes_are, one_line}}
+use Rattle.ffs_connectivity.proofs.{UnrefLaws.unref_held, UnrefLines.{attributes_are, fails_before, one_line}}
 use Rattle.ffs_connectivity.proofs.{UnrefLines.{silent, heard}, unref.report_unref.Goals.After-is_unref-unref}
 use Rattle.ffs_connectivity.proofs.unref.report_unref.Goals.{After-of}
 use Rattle.ffs_connectivity.proofs.unref.report_unref.Given as given
@@ -35,12 +36,32 @@ returns-then-not-unref g c =
       text = says_none (λ bytes k. silent _ _ (test bytes k ∙ c.if-not-unref.true));
       reads = λ bytes k. omega arith;
       sector = tt;
+      before = tt;
       paid = paid_none (omega arith);
       stays = search rules;
     }
 
-pub returns-in_err-inode : goal.returns-in_err-inode
-returns-in_err-inode g c = grind (arith, err_from_is_err_and, reads_first, tested, one_line, paid_reads, fails_in_table)
+pub returns-in_err-inode-clause-text : goal.returns-in_err-inode-clause-text
+returns-in_err-inode-clause-text g c = grind (arith, err_from_is_err_and, reads_first)
+
+pub returns-in_err-inode-clause-reads : goal.returns-in_err-inode-clause-reads
+returns-in_err-inode-clause-reads g c = grind (arith, tested, one_line)
+
+pub returns-in_err-inode-clause-sector : goal.returns-in_err-inode-clause-sector
+returns-in_err-inode-clause-sector g c = grind (arith, err_from_is_err_and, fails_in_table)
+
+pub returns-in_err-inode-clause-before : goal.returns-in_err-inode-clause-before
+returns-in_err-inode-clause-before g c =
+    let p = err_from_is_err_and c.from_residual.result c.from_residual.ensures.1 in
+    let test = tested g (goal.at.returns-in_err-inode-clause-before g c).After-is_unref-unref in
+    let fault = c.in_err-inode.field-0.0 in
+    let failed : c.inode.result ≡ Err fault = grind arith in
+    let fails = fails_before _ _ (progress g.W.Output.sink c.args.report.now) fault c.inode.ensures.inode.fault failed
+    (λ bytes k. test bytes k ∙ c.if-not-unref.false) in
+    grind arith
+
+pub returns-in_err-inode-clause-paid : goal.returns-in_err-inode-clause-paid
+returns-in_err-inode-clause-paid g c = grind (arith, err_from_is_err_and, paid_reads)
 
 pub returns-in_err-say : goal.returns-in_err-say
 returns-in_err-say g c = grind (arith, stops_all, heard_of, tested, paid_stops)
