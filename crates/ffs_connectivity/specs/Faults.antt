@@ -13,7 +13,7 @@ lines_after v x bytes = map of_tree (lines_from (unref_dir_lines (volume_of v by
 
 -- a read of the directory x failed in this sector, which is that of its block of the inode table: x has a line, and
 -- nothing was said of it yet
-pub record FailsBeforeLine (v : Layout) (knows : List ℕ → Type 0) (x : ℕ) (old new : Progress) (sector : ℕ) : Type 0
+pub record FailsBeforeUnref (v : Layout) (knows : List ℕ → Type 0) (x : ℕ) (old new : Progress) (sector : ℕ) : Type 0
   where
     pub place : sector ≡ table_place v v.inopb x / DEV_BSIZE
     pub unref : ForBytes knows (λ bytes. is_unref_dir (volume_of v bytes) x ≡ true)
@@ -21,7 +21,7 @@ pub record FailsBeforeLine (v : Layout) (knows : List ℕ → Type 0) (x : ℕ) 
 
 -- a read of a directory failed in this sector, which is that of its block of the inode table: the directory has a
 -- line, the lines of all directories below it were said, and its own line and those of later ones are to come
-pub record FailsAfterLines (v : Layout) (knows : List ℕ → Type 0) (old new : Progress) (sector : ℕ) : Type 0 where
+pub record SaidBeforeDirectory (v : Layout) (knows : List ℕ → Type 0) (old new : Progress) (sector : ℕ) : Type 0 where
   pub dir : ℕ
   pub number : dir < inodes_of v
   pub place : sector ≡ table_place v v.inopb dir / DEV_BSIZE

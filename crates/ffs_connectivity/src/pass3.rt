@@ -7,7 +7,7 @@ ghost use Rattle.ffs_report.specs.Progress.{progress};
 ghost use Rattle.ffs_volume.specs.{Directories.Connectivity.connectivity_lines, Report.Whole.phase3_messages};
 ghost use Rattle.ffs_volume.specs.Messages.Kinds as messages;
 ghost use Rattle.ffs_volume.specs.Directories.Volumes.{volume_of};
-ghost use Rattle.ffs_connectivity.specs.{Faults.FailsAfterLines, Unreached.IsFirstUnreached};
+ghost use Rattle.ffs_connectivity.specs.{Faults.SaidBeforeDirectory, Unreached.IsFirstUnreached};
 ghost use Rattle.ffs_workspace.specs.{Found.WithSurvey, Leaves.LeavesSurvey, Ready.IsReady, Tables.IsTableSector};
 
 use crate::cycles::flag_leaders;
@@ -74,8 +74,8 @@ pub fn phase3<I: Image, W: Output>(
     // A read that failed is of a block of the inode table.
     ensures sector { FailsIn (IsTableSector geometry.now.layout) result }
 
-    // It is of a directory that has a line, and the lines of those below it are said.
-    ensures said { FailsIn (FailsAfterLines geometry.now.layout
+    // It is of a directory that has a line, and the lines of those below it were said.
+    ensures before_fault { FailsIn (SaidBeforeDirectory geometry.now.layout
         (WithSurvey geometry.now.layout (I.device image.old) workspace.old)
         (progress W.sink report.old) (progress W.sink report.new)) result }
     ensures ready { IsReady geometry.now.layout (I.device image.new) workspace.new }

@@ -125,9 +125,9 @@ returns-in_err-report_unref-clause-leaves g c = grind arith
 pub returns-in_err-report_unref-clause-heading : goal.returns-in_err-report_unref-clause-heading
 returns-in_err-report_unref-clause-heading g c = grind (arith, err_from_is_err_and, heading_part)
 
-pub returns-in_err-report_unref-clause-said : goal.returns-in_err-report_unref-clause-said
-returns-in_err-report_unref-clause-said g c =
+pub returns-in_err-report_unref-clause-before_fault : goal.returns-in_err-report_unref-clause-before_fault
+returns-in_err-report_unref-clause-before_fault g c =
     let p = err_from_is_err_and c.from_residual-in_err-report_unref.result c.from_residual-in_err-report_unref.ensures.1 in
-    let more = known g (goal.at.returns-in_err-report_unref-clause-said g c).At-loop-number in
+    let more = known g (goal.at.returns-in_err-report_unref-clause-before_fault g c).At-loop-number in
     rw (p.1, p.2) (fails_after (Unit {0}) (Unit {0}) _ _ _ _ _ _ _ c.in_err-report_unref.field-0.0 (omega arith)
-    c.loop-number.invariant.said more c.in_err-report_unref.ensures.before)
+    c.loop-number.invariant.said more c.in_err-report_unref.ensures.before_fault)

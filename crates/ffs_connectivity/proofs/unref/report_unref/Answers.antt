@@ -50,10 +50,10 @@ returns-in_err-inode-clause-reads g c = grind (arith, tested, one_line)
 pub returns-in_err-inode-clause-sector : goal.returns-in_err-inode-clause-sector
 returns-in_err-inode-clause-sector g c = grind (arith, err_from_is_err_and, fails_in_table)
 
-pub returns-in_err-inode-clause-before : goal.returns-in_err-inode-clause-before
-returns-in_err-inode-clause-before g c =
+pub returns-in_err-inode-clause-before_fault : goal.returns-in_err-inode-clause-before_fault
+returns-in_err-inode-clause-before_fault g c =
     let p = err_from_is_err_and c.from_residual.result c.from_residual.ensures.1 in
-    let test = tested g (goal.at.returns-in_err-inode-clause-before g c).After-is_unref-unref in
+    let test = tested g (goal.at.returns-in_err-inode-clause-before_fault g c).After-is_unref-unref in
     let fault = c.in_err-inode.field-0.0 in
     let failed : c.inode.result ≡ Err fault = grind arith in
     let fails = fails_before _ _ (progress g.W.Output.sink c.args.report.now) fault c.inode.ensures.inode.fault failed
