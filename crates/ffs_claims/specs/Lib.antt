@@ -15,7 +15,7 @@
 -- `Series` about those of them that name whole blocks in a row. `FreeInodes` is about inodes that are passed over.
 --
 -- Phase 1b, who had a fragment first: `Reporting` has what is reported of kept offers (ReportsOffers), and that none
--- is lost or told twice where the output fails (ClearsAsSaid), `RescanRuns` those of the Runs of an inode, how many
+-- is lost or reported twice where the output fails (ClearsAsSaid), `RescanRuns` those of the Runs of an inode, how many
 -- Runs are looked at for that, and both together of an inode (Rewalks).
 pub mod Moments
 pub mod Lines
