@@ -36,7 +36,7 @@ returns-then-not-unref g c =
       text = says_none (λ bytes k. silent _ _ (test bytes k ∙ c.if-not-unref.true));
       reads = λ bytes k. omega arith;
       sector = tt;
-      before = tt;
+      before_fault = tt;
       paid = paid_none (omega arith);
       stays = search rules;
     }
