@@ -74,9 +74,9 @@ pub record SaysSections (old new : Progress) (result : Result Root RunFault) : T
   pub says : SaysBeforeFault messages old new result
   pub sections : HasSections (headings_of result) messages
 
--- what a check leaves of the counts of Runs and of what `has_dups` answers: where it came to its end
--- (`whole`), what the bytes determine, and else what `has_dups` may answer; and phase 1 looked at no more Runs than a
--- volume can have
+-- what a check leaves of the counts of Runs and of what `has_dups` answers: after a whole report, also one that stops
+-- at the root (`whole`), what the bytes determine, and else what `has_dups` may answer; and phase 1 looked at no more
+-- Runs than a volume can have
 pub record AnswersAfterPhases (whole : Bool) (knows : List ℕ → Type 0) (v : Layout) (w w' : Workspace) : Type 0 where
   pub known : whole ≡ true → ForBytes knows (λ bytes. HasAnswers v bytes w w')
   pub dups : ForBytes knows (λ bytes. AnswersDups v bytes w w')
@@ -135,8 +135,7 @@ pub record EndsAfterPhases (knows : List ℕ → Type 0) (s : Superblock) (old n
   pub right : ForBytes knows (λ bytes. text ≡ phase_lines bytes s)
   pub ends : Ends old new text (IsEndByRoot knows s text) (IsCutByRead knows text old.image new.image) end
 
--- an end that a whole report can have: also `Refused`, and `RootStop` (inode 2 is no directory). No definition asks
--- this of `Refused`, since RunsToEnd is of a check after its opening, which never ends so; proofs do
+-- an end that a whole report can have: also `Refused`, and `RootStop` (inode 2 is no directory)
 abbrev pub can_end_report : End → Bool
 can_end_report Consistent = true
 can_end_report Defects = true

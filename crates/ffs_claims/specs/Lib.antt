@@ -4,7 +4,7 @@
 --   phase1     IsLeftByPhase1, or IsCutInPhase1 where it fails; Phase1Reads; Phase1Keeps, what stays as it was
 --   phase1b    IsLeftByPhase1b; GoesOverOffers, also where it fails; Phase1bReads; Phase1bKeeps (in the file
 --              `Reporting`), what stays; phase1b_messages_for, what a second call says; ClearsAsSaid (in
---              `Reporting`), that it says what the first one didn't say whole
+--              `Reporting`), how many fragments are left for that
 --
 -- For both phases: `Moments` has the values that calls change, `Lines` the lines as messages of a report, `Leaves`
 -- what calls need of a workspace and leave of it as it was, `Bounds` the bounds on counts there.
@@ -14,8 +14,8 @@
 -- What claims with nothing to report is claimed together: `SilentAddresses` is about the next addresses of a walk, and
 -- `Series` about those of them that name whole blocks in a row. `FreeInodes` is about inodes that are passed over.
 --
--- Phase 1b, who had a fragment first: `Reporting` has what is reported of kept offers (ReportsOffers), and that none
--- is lost or reported twice where the output fails (ClearsAsSaid), `RescanRuns` those of the Runs of an inode, how many
+-- Phase 1b, who had a fragment first: `Reporting` has what is reported of kept offers (ReportsOffers), and that so
+-- many fewer are left as were said whole (ClearsAsSaid), `RescanRuns` those of the Runs of an inode, how many
 -- Runs are looked at for that, and both together of an inode (Rewalks).
 pub mod Moments
 pub mod Lines

@@ -48,7 +48,8 @@ pub record OffersReportedOnly (v : Layout) (old new : Workspace) : Type 0 where
   pub runs : new.runs_again ≡ old.runs_again
 
 -- so many fragments fewer are to be reported as messages were said whole, beside so many headings that came first.
--- After them a last message was begun, or none: a fragment in whose line the output failed is to be reported still
+-- After them a last message was begun, or none, whose fragment doesn't count. Of an output that doesn't give its bytes
+-- the messages may be any, and no more is said than that the fragments are no more than before
 pub record ClearsAsSaid {T : Type 0} (headings : ℕ) (old new : ClaimMoment) (result : Result T RunFault) : Type 0 where
   pub messages : List Message
   pub last : List Message

@@ -151,7 +151,8 @@ pub fn phase1b<I: Image, W: Output>(
         (WithNotes geometry.now.layout (I.device image.old) workspace.old)
         (λ bytes. GoesOverOffers geometry.now.layout bytes workspace.old workspace.new result) }
 
-    // Where the output failed in a line, its fragment is to be reported still.
+    // So many fragments fewer are left to report as lines were said whole, with an output that
+    // gives its bytes. Which ones these are, `offers` says.
     ensures clears { ClearsAsSaid 1 (claim_moment W.Output workspace.old report.old)
         (claim_moment W.Output workspace.new report.new) result }
     ensures reads { Phase1bReads geometry.now.layout (I.device image.old) workspace.old

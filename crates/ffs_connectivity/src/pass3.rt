@@ -74,7 +74,8 @@ pub fn phase3<I: Image, W: Output>(
     // A read that failed is of a block of the inode table.
     ensures sector { FailsIn (IsTableSector geometry.now.layout) result }
 
-    // It is of a directory that has a line, and the lines of those below it were said.
+    // Where the bytes are known, that block has a directory with a line, and just the lines of
+    // those with lesser numbers were said.
     ensures before_fault { FailsIn (SaidBeforeDirectory geometry.now.layout
         (WithSurvey geometry.now.layout (I.device image.old) workspace.old)
         (progress W.sink report.old) (progress W.sink report.new)) result }

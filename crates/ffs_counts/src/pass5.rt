@@ -48,7 +48,8 @@ pub fn phase5<I: Image, W: Output>(
     // A read that failed is of the block of a group, or of summary records.
     ensures sector { FailsIn (IsGroupSector superblock.now.geometry.layout) result }
 
-    // All that is due before the group of that block, or of these records, was said.
+    // Where the bytes are known, just the messages were said that are due before a group whose
+    // block or summary record is in that sector.
     ensures before_fault { FailsIn (SaidBeforeGroup
         (WithBlockCheck superblock.now.geometry.layout (I.device image.old) workspace.old)
         superblock.now.geometry.layout (progress W.sink report.old) (progress W.sink report.new))

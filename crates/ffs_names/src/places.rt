@@ -253,8 +253,8 @@ fn note_places_unlimited<I: Image>(
 
 /// Notes in `queue`, of each directory that is reached from the root, where its parent entry is in
 /// the image (`ffs_workspace::word_of_part`): then a path takes one read for each of its
-/// directories. Each of their parents is read once. Afterwards no parent entry is due. The windows
-/// change too. No more reads are made than those of a sweep (`sweep_reads`).
+/// directories. Each of their parents is read once at most. Afterwards no parent entry is due. The
+/// windows change too. No more reads are made than those of a sweep (`sweep_reads`).
 ///
 /// # Errors
 /// A read of the image that failed. Each place that is noted is right then too, so what the survey
@@ -275,7 +275,7 @@ pub fn note_places<I: Image>(
     ensures reads { SweepsOnce geometry.now.layout
         (WithSurvey geometry.now.layout (I.device image.old) workspace.old)
         (I.reads image.old) (I.reads image.new) }
-    // Of directories only those are read that are the parent of a reached one.
+    // No more reads are made than the parents of reached directories take.
     ensures parents { ForBytes
         (WithSurvey geometry.now.layout (I.device image.old) workspace.old)
         (λ bytes. I.reads image.new ≤ I.reads image.old

@@ -9,7 +9,7 @@ use Rattle.ffs_workspace.{specs.{Found.WithSurvey, declared.workspace.Workspace.
 use Rattle.ffs_volume.specs.Blocks.Inodes.{inodes_of}
 use Rattle.ffs_workspace.proofs.Leaving.{claims_left, survey_left, leaves_more, windows_leave}
 use Rattle.ffs_volume.specs.Directories.Connectivity.{unref_dir_lines}
-use Rattle.ffs_connectivity.{specs.Faults.lines_after, proofs.UnrefLines.{fails_after, leaders_held, lines_begin}}
+use Rattle.ffs_connectivity.{specs.Faults.lines_from_dir, proofs.UnrefLines.{fails_after, leaders_held, lines_begin}}
 use Rattle.ffs_connectivity.proofs.pass3.phase3.Goals.{At-loop-number}
 use Rattle.ffs_connectivity.proofs.pass3.phase3.Given as given
 use Rattle.ffs_connectivity.proofs.pass3.phase3.Goals as goal
@@ -74,7 +74,7 @@ returns-in_err-report_unref-clause-text g c =
     let v = c.args.geometry.now.layout in
     let n = c.loop-number.number in
     let fault = c.in_err-report_unref.field-0.0 in
-    rw (p.1, p.2) (of_fault (Unit {0}) (Unit {0}) _ _ _ (lines_after v (n + 1)) _ _ _ _ fault c.loop-number.invariant.said
+    rw (p.1, p.2) (of_fault (Unit {0}) (Unit {0}) _ _ _ (lines_from_dir v (n + 1)) _ _ _ _ fault c.loop-number.invariant.said
     (λ bytes k. from_next (unref_dir_lines (volume_of v bytes)) n (inodes_of v) (omega arith))
     (reports_knowing (Unit {0}) _ _ _ _ _ (Err fault)
     (known g (goal.at.returns-in_err-report_unref-clause-text g c).At-loop-number)

@@ -4,7 +4,7 @@ use Rattle.ffs_image.specs.Known.{ForBytes}
 use Rattle.ffs_volume.specs.{Directories.{Connectivity.connectivity_lines, Volumes.volume_of}, Report.Whole.phase3_messages}
 use Rattle.ffs_volume.specs.{Messages.Kinds.{lines_from, phase3}, Blocks.Inodes.inodes_of}
 use Rattle.ffs_workspace.specs.{Found.WithSurvey, Leaves.LeavesSurvey, Ready.CanRead}
-use Rattle.ffs_connectivity.specs.{Faults.lines_after, Leaders.HasLeaders}
+use Rattle.ffs_connectivity.specs.{Faults.lines_from_dir, Leaders.HasLeaders}
 use Rattle.ffs_volume.specs.Directories.Connectivity.{unref_dir_lines}
 use Rattle.ffs_connectivity.proofs.pass3.phase3.Given as goal
 
@@ -20,7 +20,7 @@ invariant-loop-number g l = let v = l.geometry.layout in record {
       (inodes_of v - l.number))
       ≤ g.I.Image.reads l.fn.image + length (connectivity_lines (volume_of v bytes)));
   said : SaidOf (WithSurvey v (g.I.Image.device l.fn.image) l.fn.workspace)
-      (lines_after v l.number)
+      (lines_from_dir v l.number)
       (phase3_messages v)
       (progress g.W.Output.sink l.fn.report) (progress g.W.Output.sink l.report);
   heading : HeadingFirst {T = Unit {0}} phase3 (progress g.W.Output.sink l.fn.report)
