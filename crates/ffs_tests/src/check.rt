@@ -200,25 +200,7 @@ fn refused_words(rt: &HostRuntime, words: &[&str], wanted: usize) -> (u8, usize,
     (status, out.len(), errors)
 }
 
-/// The whole help: what the manual page says of the words and of the statuses.
-static HELP: &[u8] = b"Checks an image of a Berkeley fast file system (UFS1), and never writes it.
-
-Usage: fsck_ffs -n [-b sector] image
-
-  image          the file or device that holds the file system from its first byte on
-  -n, -N         answer no to every question: the image is never written
-  -b sector      take the superblock at this sector of 512 bytes, 1 to 4194303
-  -h, --help     print this help
-  -V, --version  print the version
-
-Status:
-  0  consistent: no defect is reported
-  1  defects are reported
-  2  the arguments are wrong, or ask for this help or the version
-  8  the check didn't run to its end; the last message says why
-";
-
-/// Words that are refused, and the start of what is printed to the errors.
+/// Words that are refused, and the start of what is printed to the errors, or all of it.
 static WRONG: [(&[&str], &[u8]); 10] = [
     (&["t.img"], b"error: -n and an image are needed\n\nUsage"),
     (
@@ -246,7 +228,26 @@ static WRONG: [(&[&str], &[u8]); 10] = [
         &["-n", "a", "b"],
         b"error: this program takes -n, -b and one image; it never",
     ),
-    (&["--help"], HELP),
+    // The whole help.
+    (
+        &["--help"],
+        b"Checks an image of a Berkeley fast file system (UFS1), and never writes it.
+
+Usage: fsck_ffs -n [-b sector] image
+
+  image          the file or device that holds the file system from its first byte on
+  -n, -N         answer no to every question: the image is never written
+  -b sector      take the superblock at this sector of 512 bytes, 1 to 4194303
+  -h, --help     print this help
+  -V, --version  print the version
+
+Status:
+  0  consistent: no defect is reported
+  1  defects are reported
+  2  the arguments are wrong, or ask for this help or the version
+  8  the check didn't run to its end; the last message says why
+",
+    ),
     (&["--version"], b"fsck_ffs "),
 ];
 
