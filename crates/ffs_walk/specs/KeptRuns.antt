@@ -68,7 +68,7 @@ pub record RunReads (before after : ImageWith Blocks) (old new : Walk) (result :
 pub record GivesRun (before after : ImageWith Blocks) (old new : KeptRuns) (result : Result (Option KeptRun) ImageFault)
     : Type 0 where
   pub run : IfOk result (IsNextRun before.image.contents old new)
-  pub over : OnErr result (IsDone new)
+  pub fault : OnErr result (IsDone new)
   pub done : IsDone old → (result ≡ Ok None) × (after.reads ≡ before.reads)
   pub geometry : new.walk.geometry ≡ old.walk.geometry
   pub leaves : BlocksAfter old.walk.geometry.layout before after result

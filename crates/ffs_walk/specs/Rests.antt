@@ -161,7 +161,7 @@ pub record Advances (before after : ImageWith Blocks) (old new : Walk) (result :
   pub leaves : BlocksAfter old.geometry.layout before after result
   pub counted : AreHeld before.cache old → StepReads before after old new result
   pub any : after.reads ≤ before.reads + 1
-  pub top : IsAtTop old → (after.cache ≡ before.cache) × (after.reads ≡ before.reads)
+  pub at_inode : IsAtTop old → (after.cache ≡ before.cache) × (after.reads ≡ before.reads)
   pub sector : FailsAt (block_place old) result
 
 -- the step at the next of the inode's own addresses is taken, whatever the image holds; where there
@@ -184,5 +184,5 @@ pub record TakesStep (before after : ImageWith Blocks) (old new : Walk) (result 
   pub leaves : BlocksAfter old.geometry.layout before after result
   pub counted : AreHeld before.cache old → StepReads before after old new result
   pub any : after.reads ≤ before.reads + 1
-  pub top : IsAtTop old → (after.cache ≡ before.cache) × (after.reads ≡ before.reads)
+  pub at_inode : IsAtTop old → (after.cache ≡ before.cache) × (after.reads ≡ before.reads)
   pub sector : FailsAt (block_place old) result

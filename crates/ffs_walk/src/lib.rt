@@ -2,11 +2,12 @@
 //!
 //! `Walk::next` returns the steps of the definition (`Blocks/Steps` of `ffs_volume`) one by one:
 //! Runs of fragments, Gaps (holes), and Tails (indirect blocks with an address past the end of the
-//! file). It reads each indirect block in range once, into the part of the buffer of `Blocks` that
-//! is for its level (0 for one with addresses of data: the level of the addresses in it, not that
-//! of its own address). `Keeping` says, step after step, which steps an inode keeps, by its cut and
-//! by its bad Runs so far; `KeptRuns` gives its Runs alone, each with how many of its offers are
-//! kept. A `Window` keeps a piece of an image between reads.
+//! file). It reads each indirect block in range once, unless another walk uses the same `Blocks` in
+//! between, into the part of their buffer that is for its level (0 for one with addresses of data:
+//! the level of the addresses in it, not that of its own address). `Keeping` says, step after step,
+//! which steps an inode keeps, by its cut and by its bad Runs so far; `KeptRuns` gives its Runs
+//! alone, each with how many of its offers are kept. A `Window` keeps a piece of an image between
+//! reads.
 //!
 //! `class_of` gives the class of an inode, and `has_steps` says which classes have steps at all. An
 //! inode has none where `is_device` or `is_short_symlink` holds: something else is in place of its

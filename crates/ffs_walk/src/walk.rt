@@ -269,8 +269,8 @@ impl Walk {
         self.used = 0;
     }
 
-    /// The next step, and `None` after the last one. An indirect block is read whole, once, when
-    /// its first word is reached.
+    /// The next step, and `None` after the last one. An indirect block is read whole when its first
+    /// word is reached, and again only where another walk has used `blocks` since.
     ///
     /// # Errors
     /// A read of an indirect block that failed. The walk is over then.

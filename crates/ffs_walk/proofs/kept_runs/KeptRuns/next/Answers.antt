@@ -13,7 +13,7 @@ returns-then-not-is_replay_open g c =
         falls = tt;
         done = λ none. inl shut;
       };
-      over = tt;
+      fault = tt;
       done = λ d. (refl, refl);
       geometry = refl;
       leaves = record { kept = record { size = refl; holds = c.requires.holds }; read = refl };
@@ -36,7 +36,7 @@ returns-in_err-step g c =
     let going = sym c.is_replay_open.ensures ∙ c.if-not-is_replay_open.false in
     rw (p.1, p.2) (record {
       run = tt;
-      over = inr did.fault;
+      fault = inr did.fault;
       done = λ d. elim d [
         | inl shut ↦ grind (arith, shut, going)
         | inr over ↦ grind (arith, did.over (inv.over over).0)
@@ -74,7 +74,7 @@ returns-in-Run g c =
         falls = omega (arith, inv.falls, rw c.in-Some.is at did.step.falls);
         done = λ none. grind (arith, none);
       };
-      over = tt;
+      fault = tt;
       done = λ d. elim d [
         | inl shut ↦ grind (arith, shut, sym c.is_replay_open.ensures ∙ c.if-not-is_replay_open.false)
         | inr over ↦ grind (arith, did.over (inv.over over).0, c.in-Some.is)
@@ -154,13 +154,13 @@ returns g c =
         falls = tt;
         done = λ none. inr (did.step.over c.in_default.is);
       };
-      over = tt;
+      fault = tt;
       done = λ d. elim d [
         | inl shut ↦ grind (arith, shut, sym c.is_replay_open.ensures ∙ c.if-not-is_replay_open.false)
         | inr over ↦
             let done = (inv.over over).0 in (
               refl,
-              (did.top (record { single = done.single; double = done.double; triple = done.triple })).1
+              (did.at_inode (record { single = done.single; double = done.double; triple = done.triple })).1
                   ∙ (inv.over over).1,
             )
       ];

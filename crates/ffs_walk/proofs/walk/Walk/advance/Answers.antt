@@ -39,7 +39,7 @@ returns-then-is_left-2 g c =
       leaves = record { kept = c.in_ok-item-2.ensures.leaves.kept; read = c.in_ok-item-2.ensures.leaves.read };
       counted = λ h. double_reads _ _ _ _ _ _ _ h c.in_ok-item-2.ensures.block took.read refl refl first.counted;
       any = c.in_ok-item-2.ensures.block.any;
-      top = λ h. absurd (omega (arith, h.double.0, c.is_left-2.ensures.left.0 c.if-is_left-2.true));
+      at_inode = λ h. absurd (omega (arith, h.double.0, c.is_left-2.ensures.left.0 c.if-is_left-2.true));
       sector = tt;
     }
 
@@ -62,7 +62,7 @@ returns-then-is_left-3 g c =
       leaves = record { kept = c.in_ok-item-3.ensures.leaves.kept; read = c.in_ok-item-3.ensures.leaves.read };
       counted = λ h. triple_reads _ _ _ _ _ _ _ h c.in_ok-item-3.ensures.block took.read refl refl first.counted;
       any = c.in_ok-item-3.ensures.block.any;
-      top = λ h. absurd (omega (arith, h.triple.0, c.is_left-3.ensures.left.0 c.if-is_left-3.true));
+      at_inode = λ h. absurd (omega (arith, h.triple.0, c.is_left-3.ensures.left.0 c.if-is_left-3.true));
       sector = tt;
     }
 
@@ -72,7 +72,7 @@ returns g c = record {
   leaves = search rules;
   counted = grind arith;
   any = omega arith;
-  top = λ h. (refl, refl);
+  at_inode = λ h. (refl, refl);
   sector = tt;
 }
 
@@ -86,6 +86,6 @@ returns-in_err-item-3 g c =
       leaves = grind arith;
       counted = grind arith;
       any = grind arith;
-      top = λ h. absurd (omega (arith, h.triple.0, c.is_left-3.ensures.left.0 c.if-is_left-3.true));
+      at_inode = λ h. absurd (omega (arith, h.triple.0, c.is_left-3.ensures.left.0 c.if-is_left-3.true));
       sector = rw (none, none-2) c.in_err-item-3.ensures.item.sector;
     })
