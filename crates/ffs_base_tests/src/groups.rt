@@ -3,7 +3,10 @@
 ghost use Rattle.std.specs.Prelude.{◌≡◌, IfOk};
 
 use crate::compare::same;
-use ffs_groups::{GroupFindings, InUse, compare_group, group_counts};
+use ffs_groups::{
+    GroupFindings, InUse, all_or_none_allocated, compare_group, group_counts, group_fragments,
+    same_fragment_map,
+};
 use ffs_layout::Order;
 use ffs_maps::FragmentMap;
 use ffs_samples::{Number, geometry, put};
@@ -96,6 +99,35 @@ fn findings(summary: [u8; 4], wrong: Number, alloc: Global) -> Result<[bool; 4],
     };
     let right = compare_group(&geometry, &in_use, &counts, 0, &record, &block);
     Ok(reported(right))
+}
+
+/// How many fragments the root's group has, and whether the map of free ones at byte 172 of its
+/// block, with this word there, is right.
+fn fragment_map(wrong: Number, alloc: Global) -> Result<(u32, bool), Fail> {
+    let geometry = geometry(Order::Little)?;
+    let used = used_by_root(alloc)?;
+    let (_, block) = records([0; 4], wrong);
+    let right = same_fragment_map(&geometry, &used, 0, &block, 172);
+    Ok((group_fragments(&geometry, 0), right))
+}
+
+/// Fragment 32 is used and 33 is free.
+#[test]
+fn fragment_map_of_a_root(rt: HostRuntime) -> Result<(), Fail> {
+    let right = fragment_map((176, 4, 0xffff_ffee), rt.alloc())?;
+    same(&rt, &right, &(128, true));
+    let used_as_free = fragment_map((176, 4, 0xffff_ffef), rt.alloc())?;
+    same(&rt, &used_as_free, &(128, false));
+    let free_as_used = fragment_map((176, 4, 0xffff_ffec), rt.alloc())?;
+    same(&rt, &free_as_used, &(128, false));
+    Ok(())
+}
+
+#[test]
+fn kinds_that_agree(rt: HostRuntime) {
+    same(&rt, &all_or_none_allocated(&[8, 4, 10, 15]), &Some(true));
+    same(&rt, &all_or_none_allocated(&[0, 0, 0]), &Some(false));
+    same(&rt, &all_or_none_allocated(&[8, 0, 8]), &None);
 }
 
 /// Summary records, words of the group block, and what is found.

@@ -7,6 +7,8 @@ mod compare;
 #[cfg(test)]
 mod groups;
 #[cfg(test)]
+mod kinds;
+#[cfg(test)]
 mod layout;
 #[cfg(test)]
 mod maps;

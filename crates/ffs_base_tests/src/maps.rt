@@ -2,7 +2,7 @@
 
 use crate::compare::same;
 use ffs_layout::{Geometry, Order, SuperFault};
-use ffs_maps::FragmentMap;
+use ffs_maps::{FragmentMap, reserved_count};
 use ffs_samples::geometry;
 use std::alloc::AllocError;
 use std::process::Abort;
@@ -271,5 +271,13 @@ fn calls_on_maps(rt: HostRuntime) -> Result<(), Fail> {
     for &(size, calls) in &MAPS {
         answers(&rt, &geometry, size, calls)?;
     }
+    Ok(())
+}
+
+/// The root's group keeps 33 fragments, up to the end of its inodes.
+#[test]
+fn reserved_fragments(rt: HostRuntime) -> Result<(), SuperFault> {
+    let one_group = reserved_count(&geometry(Order::Little)?);
+    same(&rt, &(one_group, reserved_count(&many_groups()?)), &(33, 6423));
     Ok(())
 }

@@ -7,8 +7,8 @@ use ffs_image::ImageFault;
 use ffs_memory::{FilledList, Memory, SystemMemory};
 use ffs_samples::{flags, numbers, set_first_filled};
 use ffs_survey::{
-    Directories, EntryHead, FoundLists, KnownInodes, is_dead, is_dir, is_suspect, may_be_unreached,
-    survey_directories,
+    Directories, EntryHead, FoundLists, KnownInodes, is_dead, is_dir, is_plain, is_suspect,
+    may_be_unreached, number_of, survey_directories,
 };
 use ffs_volume::Role;
 use std::alloc::{AllocError, Global};
@@ -274,4 +274,20 @@ fn judges_single_inodes(rt: HostRuntime) -> Result<(), AllocError> {
     );
     same(&rt, &is_suspect(&[0, 0, 5], &unmarked, 2), &true);
     Ok(())
+}
+
+/// A number of a list, and 0 past its end.
+#[test]
+fn numbers_of_a_list(rt: HostRuntime) -> Result<(), AllocError> {
+    let list = numbers(&[7, 9], rt.alloc())?;
+    let found = [number_of(&list, 0), number_of(&list, 1), number_of(&list, 2)];
+    same(&rt, &found, &[7, 9, 0]);
+    Ok(())
+}
+
+#[test]
+fn plain_roles(rt: HostRuntime) {
+    let roles = [Role::Empty, Role::Dot, Role::Dotdot, Role::Extra];
+    same(&rt, &roles.map(is_plain), &[false; 4]);
+    same(&rt, &is_plain(Role::Plain), &true);
 }

@@ -1,7 +1,7 @@
 //! The steps and the classes of inodes that a reader would work out by hand, in both orders.
 
 ghost use Rattle.std.specs.Prelude.{◌≡◌, ◌*◌, ◌≤◌, ℕ, List, Option, IfOk};
-ghost use Rattle.ffs_walk.specs.Windows.{BlocksHold, CanWalk, HasRoom};
+ghost use Rattle.ffs_walk.specs.{Rests.IsAtTop, Windows.{BlocksHold, CanWalk, HasRoom}};
 ghost use Rattle.ffs_volume.specs.Disk.Areas.{FitsIn};
 
 use crate::compare::same;
@@ -10,7 +10,9 @@ use ffs_layout::{Geometry, Inode, Order};
 use ffs_memory::{Memory, SystemMemory};
 use ffs_samples::{Number, ORDERS, Stop, Watched, geometry, image_of, inode};
 use ffs_volume::{Class, Step};
-use ffs_walk::{Blocks, Walk, class_of, has_steps, is_device, is_short_symlink};
+use ffs_walk::{
+    Blocks, Keeping, Walk, any_set, class_of, has_steps, is_device, is_short_symlink,
+};
 use std::alloc::{AllocError, Global};
 use std::process::Abort;
 use std::test::Fail;
@@ -329,4 +331,112 @@ fn sizes_at_edges(rt: HostRuntime) -> Result<(), Fail> {
         }
     }
     Ok(())
+}
+
+/// The addresses of an inode that are passed without steps, each with how many fragments its block
+/// has; whether an address was left before, and whether one is left after them.
+fn directs(mut walk: Walk, alloc: Global) -> Result<(Vec<(u32, u32)>, [bool; 2]), AllocError>
+    requires { IsAtTop walk }
+{
+    let before = walk.has_address();
+    let mut found = Vec::new(alloc);
+    while walk.has_direct() {
+        found.push(walk.next_direct())?;
+        walk.pass_direct();
+    }
+    Ok((found, [before, walk.has_address()]))
+}
+
+#[test]
+fn direct_addresses(rt: HostRuntime) -> Result<(), Fail> {
+    let geometry = geometry(Order::Little)?;
+    let file = inode_with(0o100644, 4097, &[40, 44]);
+    let large = inode_with(0o100644, 53248, &INDIRECT);
+    let mut restarted = Walk::of_class(&geometry, &large, Class::File);
+    let (found, left) = directs(restarted, rt.alloc())?;
+    same(&rt, &(found.len(), left), &(12, [true, true]));
+    restarted.restart(&file, Class::File);
+    for walk in [Walk::start(&geometry, &file), restarted] {
+        let (found, left) = directs(walk, rt.alloc())?;
+        same(&rt, &found.as_slice(), &[(40, 4), (44, 1)].as_slice());
+        same(&rt, &left, &[true, false]);
+    }
+    Ok(())
+}
+
+/// Four blocks after the direct ones, of which the second is a hole.
+const FOUR_WORDS: [Number; 3] = [word!(40, 0, 44), word!(40, 2, 48), word!(40, 3, 52)];
+
+/// The addresses in the words of an indirect block that are passed without steps, after the step of
+/// its first word.
+fn words_after_first<I: Image>(
+    geometry: &Geometry,
+    inode: &Inode,
+    image: &mut I,
+    blocks: &mut Blocks,
+) -> Result<[Option<u32>; 4], ImageFault>
+    requires { CanWalk geometry.now.layout (I.device image.old) blocks.old }
+{
+    let mut walk = Walk::start(geometry, inode);
+    let mut found = [None; 4];
+    while !walk.is_in_held_block(blocks) {
+        if walk.next(image, blocks)?.is_none() {
+            return Ok(found);
+        }
+    }
+    for address in &mut found {
+        if walk.has_word() {
+            *address = Some(walk.next_address(walk.geometry.layout.order, blocks));
+            walk.pass_word();
+        }
+    }
+    Ok(found)
+}
+
+/// The same of a volume with those words.
+fn words_of_file(order: Order, alloc: Global) -> Result<[Option<u32>; 4], Fail> {
+    let geometry = geometry(order)?;
+    let file = inode_with(0o100644, 4096 * 16, &INDIRECT);
+    let mut image = image_of(order, &FOUR_WORDS, alloc)?;
+    let mut blocks = empty_blocks(&geometry, alloc)?;
+    let found = words_after_first(&geometry, &file, &mut image, &mut blocks);
+    drop(blocks);
+    Ok(found?)
+}
+
+#[test]
+fn words_without_steps(rt: HostRuntime) -> Result<(), Fail> {
+    for order in ORDERS {
+        let found = words_of_file(order, rt.alloc())?;
+        same(&rt, &found, &[Some(0), Some(48), Some(52), None]);
+    }
+    Ok(())
+}
+
+/// An inode is cut by its eleventh bad Run, and by as many kept offers as its cut says.
+#[test]
+fn cut_inodes(rt: HostRuntime) {
+    let mut bad = Keeping::start(0);
+    let mut runs = 0;
+    while bad.is_replay_open() && runs < 20 {
+        bad.take(1, false);
+        runs += 1;
+    }
+    same(&rt, &runs, &11);
+    let mut cut = Keeping::start(6);
+    let mut taken = [9; 3];
+    for place in 0..3 {
+        if cut.is_replay_open() {
+            taken[place] = cut.take(4, true);
+        }
+    }
+    same(&rt, &taken, &[4, 2, 9]);
+}
+
+#[test]
+fn bytes_that_are_set(rt: HostRuntime) {
+    same(&rt, &(any_set(&[]), any_set(&[0; 40])), &(false, false));
+    let mut bytes = [0; 40];
+    bytes[39] = 128;
+    same(&rt, &any_set(&bytes), &true);
 }

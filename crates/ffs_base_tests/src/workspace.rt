@@ -10,7 +10,10 @@ use ffs_layout::{Geometry, Inode, Order};
 use ffs_memory::FixedList;
 use ffs_samples::{Number, geometry, image_of, inode};
 use ffs_volume::Class;
-use ffs_workspace::{Table, Workspace, address_in, cut_in, links_start, note_of};
+use ffs_workspace::{
+    Table, Workspace, address_in, cut_in, is_due, links_start, note_of, noted_part, part_size,
+    with_due, without_due, word_of_part,
+};
 use std::alloc::Global;
 use std::test::Fail;
 
@@ -53,14 +56,18 @@ fn by_blocks<I: Image>(
     Ok([root, next])
 }
 
-fn root_by_blocks(alloc: Global) -> Result<[Inode; 2], Fail> {
+/// These two, and how many inodes the table holds after them, and after it forgets them.
+fn root_by_blocks(alloc: Global) -> Result<([Inode; 2], [u32; 2]), Fail> {
     let geometry = geometry(Order::Little)?;
     let mut image = image_of(Order::Little, &ROOT, alloc)?;
     let buffer = vec![in alloc; 0u8; geometry.layout.bsize as usize]?;
     let mut table = Table::over(FixedList::new(buffer));
     let found = by_blocks(&geometry, &mut table, &mut image);
+    let held = table.count;
+    table.forget();
+    let left = table.count;
     drop(table);
-    Ok(found?)
+    Ok((found?, [held, left]))
 }
 
 /// The mode, the number of links and the size of an inode.
@@ -70,10 +77,11 @@ fn seen(inode: &Inode) -> (u16, i16, u64) {
 
 #[test]
 fn inode_in_its_table(rt: HostRuntime) -> Result<(), Fail> {
-    let [root, next] = root_by_blocks(rt.alloc())?;
+    let ([root, next], held) = root_by_blocks(rt.alloc())?;
     same(&rt, &seen(&root), &(0o40755, 2, 512));
     same(&rt, &root.addresses[0], &36);
     same(&rt, &seen(&next), &(0, 0, 0));
+    same(&rt, &held, &[32, 0]);
     Ok(())
 }
 
@@ -149,4 +157,37 @@ fn starts_by_links(rt: HostRuntime) {
         &(links_start(-1), links_start(-32768)),
         &(32769, 32769),
     );
+}
+
+/// Whether a fragment has a DUP line that isn't reported: before its bit is set, after it is, and
+/// after it is cleared.
+fn unreported(alloc: Global) -> Result<[bool; 3], Fail> {
+    let geometry = geometry(Order::Little)?;
+    let mut workspace = Workspace::new(alloc, &geometry)?;
+    let before = workspace.has_unreported_dups();
+    workspace.duplicates.set(37);
+    let set = workspace.has_unreported_dups();
+    workspace.duplicates.clear(37);
+    Ok([before, set, workspace.has_unreported_dups()])
+}
+
+#[test]
+fn unreported_duplicates(rt: HostRuntime) -> Result<(), Fail> {
+    same(&rt, &unreported(rt.alloc())?, &[false, true, false]);
+    Ok(())
+}
+
+/// The parts of a volume of less than 2^40 bytes are chunks of 512 bytes. The chunk at byte 36,864
+/// has the number 72, and words count from 1.
+#[test]
+fn words_of_parts(rt: HostRuntime) -> Result<(), Fail> {
+    let geometry = geometry(Order::Little)?;
+    same(&rt, &part_size(&geometry), &512);
+    let word = word_of_part(&geometry, 36864);
+    same(&rt, &(noted_part(word), is_due(word)), &(Some(72), false));
+    let due = with_due(word);
+    same(&rt, &(noted_part(due), is_due(due)), &(Some(72), true));
+    same(&rt, &without_due(due), &word);
+    same(&rt, &(noted_part(0), noted_part(with_due(0))), &(None, None));
+    Ok(())
 }
