@@ -20,7 +20,7 @@ use ffs_layout::Geometry;
 use ffs_report::{Heading, Line, Output, Report, RunFault};
 use ffs_volume::Inode;
 use ffs_volume::constants::ROOTINO;
-use ffs_walk::KeptRuns;
+use ffs_walk::SeenRuns;
 use ffs_workspace::{Workspace, sweep_reads};
 
 /// Walks over the blocks of an inode again, until it is cut or nothing is left to report.
@@ -38,7 +38,7 @@ fn rewalk<I: Image, W: Output>(
         (phase_moment I.Image W.Output image.new workspace.new report.new) result }
     ensures table { workspace.new.windows.table ≡ workspace.old.windows.table }
 {
-    let mut runs = KeptRuns::start(geometry, inode, workspace.noted_cut(number));
+    let mut runs = SeenRuns::start(geometry, inode, workspace.noted_cut(number));
     while let Some(run) = runs.next(image, &mut workspace.windows.blocks)? {
         workspace.runs_again = workspace.runs_again.saturating_add(1);
         report_run(geometry, workspace, number, run.start, run.taken, report)?;

@@ -3,7 +3,7 @@ use Rattle.ffs_volume.specs.{Blocks.{KeptSteps.claims_before, Inodes.inodes_of},
 use Rattle.ffs_image.specs.Known.{ForBytes}
 use Rattle.ffs_workspace.specs.Ready.{KeepsWindows}
 use Rattle.ffs_finding.specs.Claims.{WithBlocks}
-use Rattle.ffs_finding.{specs.Outcome.PrintedTo, proofs.Owners.keepers_from}
+use Rattle.ffs_finding.{specs.Outcome.PrintedOf, proofs.Owners.keepers_from}
 use Rattle.ffs_finding.proofs.owner.find_keepers_unlimited.Given as goal
 
 abbrev pub invariant-loop-number : goal.invariant-loop-number
@@ -18,6 +18,6 @@ invariant-loop-number g l =
       high : 2 < l.number → l.number ≤ inodes_of v;
       paid : ForBytes knows (λ b. g.I.Image.reads l.image
           ≤ g.I.Image.reads l.fn.image + (l.number - 2) + (claims_before v b l.number).runs);
-      printed : PrintedTo knows (λ b. keepers_from v b l.fragment l.number) (λ b. keeper_lines v b l.fragment)
+      printed : PrintedOf knows (λ b. keepers_from v b l.fragment l.number) (λ b. keeper_lines v b l.fragment)
           (g.W.Output.sink l.fn.out) (g.W.Output.sink l.out);
     }

@@ -3,7 +3,7 @@ use Rattle.ffs_volume.specs.{Encodings.Replay.is_replay_open}
 use Rattle.ffs_walk.specs.{Keepings.replay_in}
 use Rattle.ffs_walk.proofs.ReplayedRuns.{closed_runs, gaps_left, none_left, run_left, tail_left}
 use Rattle.ffs_walk.proofs.Splices.{keeps_then}
-use Rattle.ffs_walk.proofs.kept_runs.KeptRuns.next.Goals as goal
+use Rattle.ffs_walk.proofs.seen_runs.SeenRuns.next.Goals as goal
 
 pub returns-then-not-is_replay_open : goal.returns-then-not-is_replay_open
 returns-then-not-is_replay_open g c =
