@@ -19,7 +19,11 @@ static KINDS: [Said; 10] = [
     (12, [true, false, false, false, true], 12),
     (4, [true, true, false, false, true], 4),
     (EMPTY_DIR_KIND, [true, true, true, false, true], 4),
-    (UNKNOWN_KIND, [true, false, false, true, false], UNKNOWN_KIND),
+    (
+        UNKNOWN_KIND,
+        [true, false, false, true, false],
+        UNKNOWN_KIND,
+    ),
 ];
 
 #[test]

@@ -274,10 +274,14 @@ fn calls_on_maps(rt: HostRuntime) -> Result<(), Fail> {
     Ok(())
 }
 
-/// The root's group keeps 33 fragments, up to the end of its inodes.
+/// The root's volume keeps 33 fragments, up to the end of its summary area.
 #[test]
 fn reserved_fragments(rt: HostRuntime) -> Result<(), SuperFault> {
     let one_group = reserved_count(&geometry(Order::Little)?);
-    same(&rt, &(one_group, reserved_count(&many_groups()?)), &(33, 6423));
+    same(
+        &rt,
+        &(one_group, reserved_count(&many_groups()?)),
+        &(33, 6423),
+    );
     Ok(())
 }

@@ -280,7 +280,11 @@ fn judges_single_inodes(rt: HostRuntime) -> Result<(), AllocError> {
 #[test]
 fn numbers_of_a_list(rt: HostRuntime) -> Result<(), AllocError> {
     let list = numbers(&[7, 9], rt.alloc())?;
-    let found = [number_of(&list, 0), number_of(&list, 1), number_of(&list, 2)];
+    let found = [
+        number_of(&list, 0),
+        number_of(&list, 1),
+        number_of(&list, 2),
+    ];
     same(&rt, &found, &[7, 9, 0]);
     Ok(())
 }

@@ -10,9 +10,7 @@ use ffs_layout::{Geometry, Inode, Order};
 use ffs_memory::{Memory, SystemMemory};
 use ffs_samples::{Number, ORDERS, Stop, Watched, geometry, image_of, inode};
 use ffs_volume::{Class, Step};
-use ffs_walk::{
-    Blocks, Keeping, Walk, any_set, class_of, has_steps, is_device, is_short_symlink,
-};
+use ffs_walk::{Blocks, Keeping, Walk, any_set, class_of, has_steps, is_device, is_short_symlink};
 use std::alloc::{AllocError, Global};
 use std::process::Abort;
 use std::test::Fail;

@@ -188,6 +188,10 @@ fn words_of_parts(rt: HostRuntime) -> Result<(), Fail> {
     let due = with_due(word);
     same(&rt, &(noted_part(due), is_due(due)), &(Some(72), true));
     same(&rt, &without_due(due), &word);
-    same(&rt, &(noted_part(0), noted_part(with_due(0))), &(None, None));
+    same(
+        &rt,
+        &(noted_part(0), noted_part(with_due(0))),
+        &(None, None),
+    );
     Ok(())
 }

@@ -5,7 +5,7 @@ ghost use Rattle.std.specs.Prelude.{None, ⊤};
 
 use crate::compare::same;
 use crate::image::{read_within, two_bytes};
-use ffs_image::{Image, ImageFault, RawFile, RawImage, System};
+use ffs_image::{Image, ImageFault, RawFile, RawImage, System, is_interrupted};
 use std::alloc::Global;
 use std::io::ErrorKind;
 use std::test::Fail;
@@ -181,4 +181,16 @@ fn a_name_of_4000_bytes_is_opened(rt: HostRuntime) -> Result<(), Fail> {
     same(&rt, &found, &(512, [7; 2], Some(Ok(()))));
     fs::remove_file(&rt, LONG)?;
     Ok(())
+}
+
+#[test]
+fn interruptions(rt: HostRuntime) {
+    let interrupted = Err(io::Error::from(ErrorKind::Interrupted));
+    let failed = Err(io::Error::from(ErrorKind::Other));
+    let found = [
+        is_interrupted(&interrupted),
+        is_interrupted(&failed),
+        is_interrupted(&Ok(0)),
+    ];
+    same(&rt, &found, &[true, false, false]);
 }

@@ -8,9 +8,9 @@ use crate::compare::same;
 use ffs::{Blocks, Chunks, FixedList, Window};
 use ffs_image::Image;
 use ffs_layout::{Entry, Geometry, Order};
-use ffs_names::{ChunkEntries, Entries, role_of};
+use ffs_names::{ChunkEntries, Entries, gap_of, is_one_dot, is_two_dots, role_of};
 use ffs_samples::{Number, Stop, geometry, image_of, inode};
-use ffs_volume::Role;
+use ffs_volume::{Class, Role};
 use std::alloc::{AllocError, Global};
 use std::test::Fail;
 
@@ -40,6 +40,17 @@ fn roles(rt: HostRuntime) -> Result<(), Fail> {
         same(&rt, &role_of(first, index, &entry(number, name)), &role);
     }
     Ok(())
+}
+
+#[test]
+fn names_of_dots(rt: HostRuntime) {
+    let names: [&[u8]; 5] = [b".", b"..", b"", b".a", b"..."];
+    let one = [true, false, false, false, false];
+    let two = [false, true, false, false, false];
+    for index in 0..5 {
+        let found = (is_one_dot(names[index]), is_two_dots(names[index]));
+        same(&rt, &(index, found), &(index, (one[index], two[index])));
+    }
 }
 
 /// Places of a chunk and the bytes there: an empty record of 12 bytes, then one of 16 bytes for `a`
@@ -149,6 +160,60 @@ fn same_fragment_twice(rt: HostRuntime) -> Result<(), Fail> {
     Ok(())
 }
 
+/// The same of a reading that was begun over another inode, and where in the image the last chunk
+/// is.
+fn chunks_restarted(cut: u32, alloc: Global) -> Result<(Vec<(u64, u8, u8)>, u64), Fail> {
+    let geometry = geometry(Order::Little)?;
+    let mut image = image_of(Order::Little, &NUMBERS, alloc)?;
+    let mut directory = inode(0o40755, 5120);
+    directory.addresses[0] = 40;
+    directory.addresses[1] = 40;
+    let mut chunks = Chunks::of_class(&geometry, &inode(0o40755, 512), Class::Dir, 0);
+    chunks.restart(&directory, Class::Dir, cut);
+    let found = chunks_of(&geometry, &mut chunks, &mut image, alloc)?;
+    Ok((found, chunks.last_place()))
+}
+
+#[test]
+fn reading_begun_again(rt: HostRuntime) -> Result<(), Fail> {
+    let (found, place) = chunks_restarted(4, rt.alloc())?;
+    same(&rt, &found.as_slice(), &&CHUNKS[..8]);
+    same(&rt, &place, &44544);
+    Ok(())
+}
+
+/// Whether a directory of two blocks, of which the first is at an address, has a hole.
+fn has_gap<I: Image>(
+    geometry: &Geometry,
+    image: &mut I,
+    first: u32,
+    alloc: Global,
+) -> Result<bool, Stop>
+    requires { FitsIn geometry.now.layout (I.device image.old).size }
+{
+    let buffer = vec![in alloc; 0u8; 3 * geometry.layout.bsize as usize]?;
+    let mut blocks = Blocks::over(FixedList::new(buffer));
+    let mut directory = inode(0o40755, 5120);
+    directory.addresses[0] = first;
+    directory.addresses[1] = 44;
+    let mut chunks = Chunks::start(geometry, &directory, 0);
+    Ok(gap_of(image, &mut blocks, &mut chunks)?)
+}
+
+/// The same of the volume.
+fn has_gap_with(first: u32, alloc: Global) -> Result<bool, Fail> {
+    let geometry = geometry(Order::Little)?;
+    let mut image = image_of(Order::Little, &[], alloc)?;
+    Ok(has_gap(&geometry, &mut image, first, alloc)?)
+}
+
+#[test]
+fn holes_of_a_directory(rt: HostRuntime) -> Result<(), Fail> {
+    let found = (has_gap_with(0, rt.alloc())?, has_gap_with(40, rt.alloc())?);
+    same(&rt, &found, &(true, false));
+    Ok(())
+}
+
 /// The chunks that come of a reading that was begun and then ended.
 fn chunks_ended(alloc: Global) -> Result<Vec<(u64, u8, u8)>, Fail> {
     let geometry = geometry(Order::Little)?;
@@ -230,5 +295,29 @@ fn entries_of_only_chunk(rt: HostRuntime) -> Result<(), Fail> {
     for &(address, entries) in &ONLY_ENTRIES {
         same(&rt, &entries_at(address, rt.alloc())?.as_slice(), &entries);
     }
+    Ok(())
+}
+
+/// The entries of a directory of one block at fragment 40, whose reading is stopped before them or
+/// not.
+fn entries_restarted(stopped: bool, alloc: Global) -> Result<Vec<(u32, u8)>, Fail> {
+    let geometry = geometry(Order::Little)?;
+    let mut image = image_of(Order::Little, &ENTRY_NUMBERS, alloc)?;
+    let mut directory = inode(0o40755, 1024);
+    directory.addresses[0] = 40;
+    let mut entries = Entries::none(&geometry);
+    entries.restart(&directory, Class::Dir, 0);
+    if stopped {
+        entries.stop();
+    }
+    Ok(entries_of(&geometry, &mut entries, &mut image, alloc)?)
+}
+
+/// The second chunk is of zeros: it has no entry.
+#[test]
+fn entries_of_a_block(rt: HostRuntime) -> Result<(), Fail> {
+    let found = entries_restarted(false, rt.alloc())?;
+    same(&rt, &found.as_slice(), &[(2, 4), (3, 4), (4, 8)].as_slice());
+    same(&rt, &entries_restarted(true, rt.alloc())?.len(), &0);
     Ok(())
 }

@@ -1,16 +1,17 @@
 //! The verdict on a plain entry, and whether a directory is in order, as a reader would work them
 //! out by hand.
 
-ghost use Rattle.ffs_pathnames.specs.Sees.{HasFlagAndWord};
+ghost use Rattle.ffs_pathnames.specs.Sees.{CanLook, HasFlagAndWord};
 
 use crate::compare::same;
 use ffs_layout::Entry;
 use ffs_memory::FilledList;
 use ffs_pathnames::inodes::Inodes;
-use ffs_pathnames::verdict::{pass, verdict_at_reading};
-use ffs_samples::{flags, numbers};
+use ffs_pathnames::verdict::{is_harmless, pass, say_verdict, verdict_at_look, verdict_at_reading};
+use ffs_report::{Counted, OutFault, Report};
+use ffs_samples::{flags, inode, numbers};
 use ffs_volume::verdict::{DotDefects, EntryDefects, HeaderDefects, Verdict};
-use ffs_volume::{Label, Role};
+use ffs_volume::{Attr, Label, Role};
 use ffs_workspace::with_due;
 use std::alloc::{AllocError, Global};
 use std::test::Fail;
@@ -185,6 +186,144 @@ fn headers(rt: HostRuntime) -> Result<(), Fail> {
         let found = defects.is_silent();
         defects.dot = DotDefects::Other { name: b"name" };
         same(&rt, &(found, defects.is_silent()), &(wanted, false));
+    }
+    Ok(())
+}
+
+/// Of each inode from 2 on: whether it is allocated, has another type than that of a file, belongs
+/// to the root, and its parent entry is due there.
+fn known_of(alloc: Global) -> Result<[[bool; 4]; 7], AllocError> {
+    let parents = numbers(&PARENTS, alloc)?;
+    let marked = flags(&MARKED, alloc)?;
+    let inodes = Inodes {
+        kinds: &KINDS,
+        marked: &marked,
+        parents: &parents,
+    };
+    let words = numbers(&[0, 0, 0, 0, with_due(7), 0, 7, 0, 0], alloc)?;
+    let mut found = [[false; 4]; 7];
+    for index in 0..7u32 {
+        let inode = index + 2;
+        found[index as usize] = [
+            inodes.is_allocated(inode),
+            inodes.has_wrong_type(inode, 8),
+            inodes.belongs(2, inode),
+            inodes.stamp_of(&words, inode) == 2,
+        ];
+    }
+    Ok(found)
+}
+
+#[test]
+fn what_is_known_of_inodes(rt: HostRuntime) -> Result<(), Fail> {
+    let wanted = [
+        [true, true, false, false],
+        [true, false, false, false],
+        [true, true, true, true],
+        [false, true, false, false],
+        [true, true, true, false],
+        [true, false, false, false],
+        [true, false, false, false],
+    ];
+    same(&rt, &known_of(rt.alloc())?, &wanted);
+    Ok(())
+}
+
+/// Of an entry of this number and type: whether it is harmless before the marked file is named, and
+/// after it.
+fn harmless(number: u32, kind: u8, alloc: Global) -> Result<[bool; 2], AllocError> {
+    let parents = numbers(&PARENTS, alloc)?;
+    let marked = flags(&MARKED, alloc)?;
+    let inodes = Inodes {
+        kinds: &KINDS,
+        marked: &marked,
+        parents: &parents,
+    };
+    let before = flags(&[false; 9], alloc)?;
+    let after = flags(&MARKED, alloc)?;
+    let entry = entry(number, kind);
+    Ok([
+        is_harmless(&inodes, &before, &entry),
+        is_harmless(&inodes, &after, &entry),
+    ])
+}
+
+#[test]
+fn harmless_entries(rt: HostRuntime) -> Result<(), Fail> {
+    for (number, kind, wanted) in [
+        (1, 14, [true, true]),
+        (3, 8, [true, true]),
+        (3, 10, [false, false]),
+        (4, 4, [false, false]),
+        (8, 8, [false, true]),
+        (9, 8, [false, false]),
+    ] {
+        let found = harmless(number, kind, rt.alloc())?;
+        same(&rt, &(number, kind, found), &(number, kind, wanted));
+    }
+    Ok(())
+}
+
+/// The verdict of a first look at the root on its entry for directory 4, which isn't stamped there
+/// or is, and that of a first look at directory 4 on the same entry.
+fn looked(alloc: Global) -> Result<[Verdict; 3], AllocError> {
+    let parents = numbers(&PARENTS, alloc)?;
+    let marked = flags(&MARKED, alloc)?;
+    let inodes = Inodes {
+        kinds: &KINDS,
+        marked: &marked,
+        parents: &parents,
+    };
+    let unstamped = numbers(&[0; 9], alloc)?;
+    let stamped = numbers(&[0, 0, 0, 0, with_due(0), 0, 0, 0, 0], alloc)?;
+    let passed = flags(&[false; 9], alloc)?;
+    let entry = entry(4, 4);
+    Ok([
+        verdict_at_look(&inodes, 2, &passed, &unstamped, &entry),
+        verdict_at_look(&inodes, 2, &passed, &stamped, &entry),
+        verdict_at_look(&inodes, 4, &passed, &unstamped, &entry),
+    ])
+}
+
+#[test]
+fn entries_at_first_look(rt: HostRuntime) -> Result<(), Fail> {
+    let parent_entry = named!(Label::Dir, false, false, false);
+    let extraneous = named!(Label::Dir, false, true, false);
+    same(
+        &rt,
+        &looked(rt.alloc())?,
+        &[parent_entry, extraneous, extraneous],
+    );
+    Ok(())
+}
+
+/// What is said of a verdict on the entry `/a` of the root.
+fn said(verdict: &Verdict, number: u32, alloc: Global) -> (Result<(), OutFault>, Vec<u8>) {
+    let mut text = Vec::new(alloc);
+    let mut out = Counted::new(&mut text);
+    let mut report = Report::new(&mut out);
+    let attr = Attr::of(number, &inode(0o100644, 100));
+    let end = say_verdict(verdict, number, attr, b"/a", b"/", &mut report);
+    (end, text)
+}
+
+#[test]
+fn lines_of_verdicts(rt: HostRuntime) -> Result<(), Fail> {
+    let wrong_type = named!(Label::File, false, false, true);
+    for (verdict, wanted) in [
+        (
+            Verdict::OutOfRange,
+            b"I OUT OF RANGE I=3\nNAME=/a\nREMOVE? no\n\n".as_slice(),
+        ),
+        (Verdict::Whiteout, b"".as_slice()),
+        (
+            wrong_type,
+            b"BAD TYPE VALUE I=3 OWNER=0 MODE=100644\nSIZE=100 MTIME=0\nFILE=/a\nFIX? no\n\n".as_slice(),
+        ),
+    ] {
+        let (end, text) = said(&verdict, 3, rt.alloc());
+        end?;
+        same(&rt, &text.as_slice(), &wanted);
     }
     Ok(())
 }

@@ -91,3 +91,46 @@ fn drops_a_name_that_has_no_room(rt: HostRuntime) {
         same(&rt, &found, &(written, true));
     }
 }
+
+/// The text of a path with a name more at its end, once by `put_with`, and once by `with_last`.
+fn with_more(names: &[&[u8]], last: &[u8]) -> [PathText; 2] {
+    let mut path = PathBuffer::new();
+    for name in names {
+        path.push_front(name);
+    }
+    let mut texts = [PathText::new(), PathText::new()];
+    path.put_with(last, &mut texts[0]);
+    path.with_last(&last[..last.len().min(255)])
+        .put(&mut texts[1]);
+    texts
+}
+
+#[test]
+fn puts_a_name_after(rt: HostRuntime) {
+    for text in with_more(&[b"group", b"etc"], b"a") {
+        same(&rt, &text.as_slice(), &b"/etc/group/a".as_slice());
+    }
+    for text in with_more(&[LONG; 4], b"b") {
+        let bytes = text.as_slice();
+        same(&rt, &(text.len(), bytes.starts_with(b"?/a")), &(771, true));
+        same(&rt, &bytes.ends_with(b"a/b"), &true);
+    }
+}
+
+/// The path of an entry of a directory below one that is reached or not.
+fn child_of(reached: bool) -> PathText {
+    let mut path = DirectoryPath {
+        reached,
+        names: PathBuffer::new(),
+    };
+    path.names.push_front(b"etc");
+    let mut text = PathText::new();
+    path.child(b"a").put_entry(b"b", &mut text);
+    text
+}
+
+#[test]
+fn path_below_a_directory(rt: HostRuntime) {
+    same(&rt, &child_of(true).as_slice(), &b"/etc/a/b".as_slice());
+    same(&rt, &child_of(false).as_slice(), &b"?/b".as_slice());
+}
