@@ -19,7 +19,7 @@ use Rattle.ffs_claims.specs.Reporting.{ClearsAsSaid, OffersReported, ReportedInP
 
 -- the kept offers of a Run, and of Runs
 abbrev pub run_offers : (number : ℕ) → SeenRun → List Offer
-run_offers number run = map (offer_of number) (range_with_len run.start run.taken)
+run_offers number run = map (offer_of number) (range_with_len run.start run.kept)
 
 abbrev pub offers_of_runs : (number : ℕ) → List SeenRun → List Offer
 offers_of_runs number runs = flat_map (run_offers number) runs

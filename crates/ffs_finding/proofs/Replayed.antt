@@ -22,9 +22,9 @@ any_in_range f x start zero = grind (arith, nat_tests)
 any_in_range f x start (suc taken) = let more = any_in_range f x (start + 1) taken in grind (arith, nat_tests)
 
 any_in_run : (f x : ℕ) (run : SeenRun) → list_any (λ o. o.fragment == f) (offers_of_runs x (run ∷ []))
-    ≡ is_in_run f run.start run.taken
-any_in_run f x run = rw (append-nil (map (offer_of x) (range_with_len run.start run.taken)))
-    (any_in_range f x run.start run.taken)
+    ≡ is_in_run f run.start run.kept
+any_in_run f x run = rw (append-nil (map (offer_of x) (range_with_len run.start run.kept)))
+    (any_in_range f x run.start run.kept)
 
 -- the Run of a step, and what it counts
 same_count : (start len : ℕ) (block : Option ℕ) → indirect_in (Run start len block) ≡ indirect_by block
@@ -48,9 +48,9 @@ lines_replay v f x earlier seen s (Run start len block ∷ steps) few same =
       | inl going ↦
           let more = lines_replay v f x (earlier + indirect_in step) (seen + indirect_by block) (after_step v s step) steps
           (step_few v s step few) (λ q. ap (λ n. n + indirect_in step) (same going) ∙ ap (λ n. seen + n) count) in
-          let run : SeenRun = record { start = start; taken = run_taken v cut (replay_of s) start len; block = block } in
+          let run : SeenRun = record { start = start; kept = run_taken v cut (replay_of s) start len; block = block } in
           let seen_one : step_run v cut (replay_of s) step ≡ run ∷ [] = rw (going_on ∙ going) refl in
-          let keeps : list_any (λ o. o.fragment == f) (kept_in_step v x s step) ≡ is_in_run f start run.taken =
+          let keeps : list_any (λ o. o.fragment == f) (kept_in_step v x s step) ≡ is_in_run f start run.kept =
           ap (list_any (λ o. o.fragment == f)) (one ∙ ap (offers_of_runs x) seen_one) ∙ any_in_run f x run in
           let line : keeper_lines_of_step v f x earlier s step ≡ lines_of_run f x seen run = rw (keeps, same going) refl in
           rw (seen_one, after, line, more) refl

@@ -43,12 +43,12 @@ is_in_run f start taken = nat_le start f && nat_lt f (start + taken)
 -- blocks of the inode before it
 abbrev pub run_text : Sought → (earlier : ℕ) → SeenRun → List ℕ
 run_text s earlier run =
-    if is_in_run s.fragment run.start run.taken then keeper_text s.number earlier run.block else []
+    if is_in_run s.fragment run.start run.kept then keeper_text s.number earlier run.block else []
 
 -- the line of a Run, and the lines of Runs
 abbrev pub lines_of_run : (f x earlier : ℕ) → SeenRun → List (List ℕ)
 lines_of_run f x earlier run =
-    if is_in_run f run.start run.taken then keeper_text x earlier run.block ∷ [] else []
+    if is_in_run f run.start run.kept then keeper_text x earlier run.block ∷ [] else []
 
 unfoldable pub lines_of_runs : (f x earlier : ℕ) → List SeenRun → List (List ℕ)
 lines_of_runs f x earlier [] = []

@@ -45,7 +45,7 @@ runs_next v cut r step steps = ap (λ runs. step_run v cut r step ++ runs) (by_c
 pub run_left : (v v' : Layout) (cut cut' : ℕ) (r r' : Replay) (start len taken : ℕ) (block : Option ℕ)
     (R R' : List Step) → v' ≡ v → R ≡ Run start len block ∷ R' → is_replay_open cut r ≡ true →
     taken ≡ run_taken v' cut r start len → r' ≡ replay_step_by_cut v' cut r (Run start len block) → cut' ≡ cut →
-    seen_runs v cut r R ≡ record { start = start; taken = taken; block = block } ∷ seen_runs v' cut' r' R'
+    seen_runs v cut r R ≡ record { start = start; kept = taken; block = block } ∷ seen_runs v' cut' r' R'
 run_left v v' cut cut' r r' start len taken block R R' same e going some after stays =
     rw (some, after, stays, same, e) (runs_next v cut r (Run start len block) R' ∙ rw going refl)
 

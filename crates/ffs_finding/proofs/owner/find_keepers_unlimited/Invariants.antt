@@ -1,7 +1,7 @@
 use Rattle.std.proofs.Common.{◌≡◌, ◌+◌, ◌-◌, ◌<◌, ◌≤◌}
 use Rattle.ffs_volume.specs.{Blocks.{KeptSteps.claims_before, Inodes.inodes_of}, Find.Owner.keeper_lines}
 use Rattle.ffs_image.specs.Known.{ForBytes}
-use Rattle.ffs_workspace.specs.Ready.{KeepsWindows}
+use Rattle.ffs_workspace.specs.Ready.{LeavesAllButWindows}
 use Rattle.ffs_finding.specs.Claims.{WithBlocks}
 use Rattle.ffs_finding.{specs.Outcome.PrintedOf, proofs.Owners.keepers_from}
 use Rattle.ffs_finding.proofs.owner.find_keepers_unlimited.Given as goal
@@ -13,7 +13,7 @@ invariant-loop-number g l =
     let knows = WithBlocks v d l.fn.workspace in
     record {
       device : g.I.Image.device l.image ≡ d;
-      stays : KeepsWindows v (g.I.Image.device l.image) l.fn.workspace l.workspace;
+      stays : LeavesAllButWindows v (g.I.Image.device l.image) l.fn.workspace l.workspace;
       low : 2 ≤ l.number;
       high : 2 < l.number → l.number ≤ inodes_of v;
       paid : ForBytes knows (λ b. g.I.Image.reads l.image
