@@ -28,9 +28,17 @@ pub record HasPiece (v : Layout) (n x : ℕ) : Type 0 where
 abbrev pub table_place : Layout → (n x : ℕ) → ℕ
 table_place v n x = (cgstart v (x / v.ipg) + v.iblkno) * v.fsize + x % v.ipg / n * (n * DINODE_SIZE)
 
+-- the block of the inode table that has the inode x begins in this sector
+abbrev pub IsSectorOfInode : Layout → (x sector : ℕ) → Type 0
+IsSectorOfInode v x sector = sector ≡ table_place v v.inopb x / DEV_BSIZE
+
+-- a read of the inode x failed in this sector, of its block, while what was said stayed as it was
+abbrev pub FailsBeforeLine : {S : Type 0} → Layout → (x : ℕ) → (said said' : S) → (sector : ℕ) → Type 0
+FailsBeforeLine v x said said' sector = IsSectorOfInode v x sector × (said' ≡ said)
+
 -- a block of the inode table begins in this sector
 abbrev pub IsTableSector : Layout → (sector : ℕ) → Type 0
-IsTableSector v sector = (x : ℕ) × (x < inodes_of v) × (sector ≡ table_place v v.inopb x / DEV_BSIZE)
+IsTableSector v sector = (x : ℕ) × (x < inodes_of v) × IsSectorOfInode v x sector
 
 -- how many inodes of 128 bytes a sector of 512 bytes has, and how many eight sectors have
 abbrev pub sector_inodes : ℕ
