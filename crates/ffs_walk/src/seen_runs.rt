@@ -13,7 +13,7 @@ pub struct KeptRun {
     /// Its first fragment.
     pub start: u32,
     /// How many of its offers are kept: the first ones.
-    pub taken: u32,
+    pub kept: u32,
     /// Its logical block, and none for that of an indirect block.
     pub block: Option<u64>,
 }
@@ -61,10 +61,10 @@ impl KeptRuns {
             match step {
                 Step::Run { start, len, block } => {
                     let in_range = self.walk.geometry.in_range(start, len);
-                    let taken = self.keeping.take(len, in_range);
+                    let kept = self.keeping.take(len, in_range);
                     return Ok(Some(KeptRun {
                         start,
-                        taken,
+                        kept,
                         block,
                     }));
                 }

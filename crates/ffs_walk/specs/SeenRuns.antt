@@ -13,7 +13,7 @@ use Rattle.ffs_walk.specs.Rests.{IsAtTop, IsOver, most_steps_left, steps_left}
 -- the Run of a step, if it is seen
 abbrev pub step_run : Layout → (cut : ℕ) → Replay → Step → List KeptRun
 step_run v cut r (Run start len block) = if is_replay_open cut r
-    then record { start = start; taken = run_taken v cut r start len; block = block } ∷ [] else []
+    then record { start = start; kept = run_taken v cut r start len; block = block } ∷ [] else []
 step_run v cut r Tail = []
 step_run v cut r Gap = []
 
