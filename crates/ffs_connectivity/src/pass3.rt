@@ -7,7 +7,7 @@ ghost use Rattle.ffs_report.specs.Progress.{progress};
 ghost use Rattle.ffs_volume.specs.{Directories.Connectivity.connectivity_lines, Report.Whole.phase3_messages};
 ghost use Rattle.ffs_volume.specs.Messages.Kinds as messages;
 ghost use Rattle.ffs_volume.specs.Directories.Volumes.{volume_of};
-ghost use Rattle.ffs_connectivity.specs.{Faults.SaidBeforeDirectory, Unreached.IsFirstUnreached};
+ghost use Rattle.ffs_connectivity.specs.{BeforeFault.SaidBeforeDirectory, Unreached.IsFirstUnreached};
 ghost use Rattle.ffs_workspace.specs.{Found.WithSurvey, Leaves.LeavesSurvey, Ready.IsReady, Tables.IsTableSector};
 
 use crate::cycles::flag_leaders;
@@ -76,8 +76,8 @@ pub fn phase3<I: Image, W: Output>(
 
     // Where the bytes are known, that block has a directory with a line, and just the lines of
     // those with lesser numbers were said.
-    ensures before_fault { FailsIn (SaidBeforeDirectory geometry.now.layout
-        (WithSurvey geometry.now.layout (I.device image.old) workspace.old)
+    ensures before_fault { FailsIn (SaidBeforeDirectory
+        (WithSurvey geometry.now.layout (I.device image.old) workspace.old) geometry.now.layout
         (progress W.sink report.old) (progress W.sink report.new)) result }
     ensures ready { IsReady geometry.now.layout (I.device image.new) workspace.new }
 {

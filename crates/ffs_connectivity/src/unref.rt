@@ -9,7 +9,7 @@ ghost use Rattle.ffs_workspace.specs.{Found.WithSurvey, Ready.LeavesAllButWindow
 ghost use Rattle.ffs_volume.specs.Directories.Connectivity.{unref_dir_lines};
 ghost use Rattle.ffs_volume.specs.{declared.Layout.Layout, Blocks.Inodes.inodes_of};
 ghost use Rattle.ffs_workspace.specs.Lengths.{IsFor};
-ghost use Rattle.ffs_connectivity.specs.{Faults.FailsBeforeUnref, Phase3.{CanReportUnref, is_unref_by}};
+ghost use Rattle.ffs_connectivity.specs.{BeforeFault.FailsBeforeUnref, Phase3.{CanReportUnref, is_unref_by}};
 
 use ffs_image::Image;
 use ffs_layout::Geometry;
@@ -73,9 +73,9 @@ pub fn report_unref<I: Image, W: Output>(
     ensures sector { FailsIn (IsTableSector geometry.now.layout) result }
 
     // A read that failed is of this inode, before its line is said.
-    ensures before_fault { FailsIn (FailsBeforeUnref geometry.now.layout
-        (WithSurvey geometry.now.layout (I.device image.old) workspace.old) number
-        (progress W.sink report.old) (progress W.sink report.new)) result }
+    ensures before_fault { FailsIn (FailsBeforeUnref
+        (WithSurvey geometry.now.layout (I.device image.old) workspace.old) geometry.now.layout
+        number (progress W.sink report.old) (progress W.sink report.new)) result }
     ensures paid { Paid 1 (progress W.sink report.old) (progress W.sink report.new)
         (I.reads image.old) (I.reads image.new) result }
     ensures stays { LeavesAllButWindows geometry.now.layout (I.device image.new) workspace.old

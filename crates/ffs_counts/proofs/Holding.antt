@@ -1,7 +1,7 @@
 -- What a workspace holds where only its windows have changed, and the lines of an inode by it.
 use Rattle.std.proofs.Common.{◌≡◌, ℕ, ℤ, zero, suc, ◌+◌, ◌-◌, ◌<◌, ◌≤◌, Bool, true, false, List, [], ◌||◌, not}
 use Rattle.std.proofs.Common.{if◌then◌else◌, length, map, refl, ap, ◌∙◌, sym, slice_index, vec_len, drop, take, arith}
-use Rattle.std.{proofs.Common.{SFits, ◌++◌, append-nil}, specs.{List.slice_index_or, Int.w16, declared.{alloc.Global.Global, vec.Vec.Vec}}}
+use Rattle.std.{proofs.Common.{SFits}, specs.{List.slice_index_or, Int.w16, declared.{alloc.Global.Global, vec.Vec.Vec}}}
 use Rattle.std.proofs.lemmas.{Bool.Decides.nat_tests, List.{get_or-drop, get_or-take, length-drop, length-take-le}}
 use Rattle.std.proofs.lemmas.{List.get_or_read, Int.to_z_pos, Bool.{and_parts, cases_lt, eqb-true}}
 use Rattle.ffs_survey.specs.Survey.{suspect_at}
@@ -14,8 +14,8 @@ use Rattle.ffs_volume.specs.Directories.ReferenceCheck.{inode_reference_lines, r
 use Rattle.ffs_volume.specs.Directories.{Roles.{is_allocated_inode, is_inode, references}, Volumes.class_at}
 use Rattle.ffs_volume.specs.{Directories.Volumes.{marked_at, volume_of, volume_with}, Disk.Numbers.i16_at}
 use Rattle.ffs_volume.specs.{Encodings.Kinds.{kind_at, class_of_kind, is_empty_dir_kind}, Messages.Kinds.Message}
-use Rattle.ffs_volume.{specs.Messages.Kinds.{TreeMessage, of_tree, lines_below, lines_from}, proofs.LinkLaws.{links_met}}
-use Rattle.ffs_volume.proofs.Numbered.{all_from, below_and_from}
+use Rattle.ffs_volume.{specs.Messages.Kinds.{TreeMessage, of_tree, lines_from}, proofs.LinkLaws.{links_met}}
+use Rattle.ffs_volume.proofs.Numbered.{all_from}
 use Rattle.ffs_workspace.specs.{declared.workspace.Workspace.Workspace, Holds.{HoldsBlockCheck, HoldsFindings, bool_at}}
 use Rattle.ffs_workspace.proofs.KindLaws.{suspect_is, some_is}
 use Rattle.ffs_counts.{specs.References.{reference_reported, is_dead_by, is_right_by}, proofs.Classes.same_test}
@@ -158,21 +158,6 @@ passed_lines v b w d k n f right low all =
     let none : (j : ℕ) → j < k → lines (d + j) ≡ [] = λ j h.
     silent_by v b w (d + j) _ (omega (arith, h, low, all)) f refl (right j h) in
     ap (map of_tree) (ap (lines_from lines d) q ∙ skip_none lines k d (n - (d + k)) none)
-
--- so the lines of the inodes below them are those of the inodes below the one after them
-pub passed_below : (v : Layout) (b : List ℕ) (w : Workspace) (d k : ℕ) → HoldsFindings v b w →
-    ((j : ℕ) → j < k → is_allocated (class_of_kind (slice_index w.kinds.items (d + j))) ≡ true →
-    is_right_by w (d + j) ≡ true) → d + k ≤ inodes_of v →
-    lines_below (reference_lines_at (volume_of v b)) (d + k) ≡ lines_below (reference_lines_at (volume_of v b)) d
-unfolding lines_from
-passed_below v b w d k f right low =
-    let lines = reference_lines_at (volume_of v b) in
-    let none : (j : ℕ) → j < k → lines (d + j) ≡ [] = λ j h.
-    silent_by v b w (d + j) _ (omega (arith, h, low)) f refl (right j h) in
-    let q : k ≡ k + 0 = omega arith in
-    below_and_from lines k d
-    ∙ ap (λ (xs : List TreeMessage). lines_below lines d ++ xs) (ap (lines_from lines d) q ∙ skip_none lines k d 0 none)
-    ∙ append-nil (lines_below lines d)
 
 -- ---- an inode that is dead, or has other references than links
 -- an inode that isn't right by the lists of a workspace has a line, whatever is read of it

@@ -1,12 +1,12 @@
 -- What phases 4 and 5 have said where a read failed: just what is due before an inode, or a group, of its sector.
-use Rattle.std.specs.{Prelude.{ℕ, ◌≡◌, ◌<◌, ◌/◌, List, [], ◌∷◌, map}, List.{flat_map, range_with_len}}
+use Rattle.std.specs.{Prelude.{ℕ, ◌<◌, List, [], ◌∷◌, map}, List.{flat_map, range_with_len}}
 use Rattle.ffs_volume.specs.{declared.{BlockMessage.BlockMessage, Layout.Layout}, Blocks.Owners.owners_of}
-use Rattle.ffs_volume.specs.{Blocks.Inodes.inodes_of, declared.constants.TheConstants.DEV_BSIZE}
+use Rattle.ffs_volume.specs.Blocks.Inodes.{inodes_of}
 use Rattle.ffs_volume.specs.Directories.{ReferenceCheck.reference_lines_at, Volumes.{class_at, volume_of}}
 use Rattle.ffs_volume.specs.Messages.Kinds.{Message, lines_below, of_blocks, of_tree, phase4, phase5}
 use Rattle.ffs_volume.specs.Groups.GroupCheck.{group_lines, is_free_of_kept, reported_once, unreported}
 use Rattle.ffs_report.specs.{PhaseOutcome.SaidOf, Progress.Progress}
-use Rattle.ffs_workspace.specs.Tables.{table_place}
+use Rattle.ffs_workspace.specs.Tables.{IsSectorOfInode}
 use Rattle.ffs_counts.specs.Records.{IsSectorOf}
 
 -- the lines of the groups below c, repeated ones too
@@ -25,14 +25,6 @@ pub record SaidBeforeGroup (knows : List ℕ → Type 0) (v : Layout) (old new :
   pub low : group < v.ncg
   pub failed : IsSectorOf v group sector
   pub said : SaidOf knows (λ bytes. []) (messages_before_group v group) old new
-
--- the block of the inode table that holds the inode x begins in this sector
-abbrev pub IsSectorOfInode : Layout → (x sector : ℕ) → Type 0
-IsSectorOfInode v x sector = sector ≡ table_place v v.inopb x / DEV_BSIZE
-
--- the read that failed in this sector is of the block that holds the inode x, and nothing was said
-abbrev pub FailsBeforeLine : Layout → (x : ℕ) → (old new : Progress) → (sector : ℕ) → Type 0
-FailsBeforeLine v x old new sector = IsSectorOfInode v x sector × (new ≡ old)
 
 -- the messages of phase 4 before that of the inode x: its heading, and the lines of the inodes below x
 abbrev pub messages_before_inode : Layout → (x : ℕ) → (bytes : List ℕ) → List Message

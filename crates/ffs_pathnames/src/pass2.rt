@@ -2,7 +2,7 @@
 ghost use Rattle.std.specs.Prelude.{◌≡◌, ◌+◌, ◌*◌, ◌∷◌, [], false, true, length, map, slice_index, vec_len, ◌&&◌, not, ℕ, IfOk, IsErr, OnErr};
 ghost use Rattle.ffs_report.specs.{Paid.Paid, PhaseOutcome.{HeadingFirst, ImageAfter, PhaseReports}};
 ghost use Rattle.ffs_image.specs.Known.{ForBytes};
-ghost use Rattle.ffs_report.specs.PhaseOutcome.{SaysBeforeFault};
+ghost use Rattle.ffs_report.specs.PhaseOutcome.{SaysThenReads};
 ghost use Rattle.ffs_report.specs.Progress.{progress};
 ghost use Rattle.ffs_volume.specs.Directories.{PathnameCheck.pathname_lines, Volumes.volume_of};
 ghost use Rattle.ffs_volume.specs.{Encodings.Kinds.is_dir_kind, Messages.Kinds.of_tree, Report.Reads.{line_reads, sweep_reads}};
@@ -90,7 +90,7 @@ pub fn phase2<I: Image, W: Output>(
     // counts as made in any case.
     ensures surveyed { workspace.new.surveyed ≡ false → (workspace.old.surveyed ≡ false) × ForBytes
         (WithBlockCheck geometry.now.layout (I.device image.old) workspace.old)
-        (λ bytes. IsErr result × SaysBeforeFault (messages.phase2 ∷ [])
+        (λ bytes. IsErr result × SaysThenReads (messages.phase2 ∷ [])
         (progress W.sink report.old) (progress W.sink report.new) result) }
 
     // Where a read or a write failed, and the survey is made, what is to be held is held still.

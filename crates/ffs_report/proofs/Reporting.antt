@@ -1,7 +1,7 @@
 -- How a phase continues and ends: for its answers, in which most arguments can be written as `_`.
 use Rattle.std.proofs.Common.{◌≡◌, refl, ◌∙◌, sym, ℕ, List, [], ◌++◌, append_assoc, append-nil, Result, Ok, Err, arith}
-use Rattle.std.proofs.Common.{◌∷◌}
-use Rattle.ffs_volume.specs.Messages.Kinds.{Message}
+use Rattle.std.proofs.{Common.{◌∷◌, ◌+◌, ◌-◌, ◌≤◌, ap, map}, lemmas.List.{append_cancel_right, map-append}}
+use Rattle.ffs_volume.{specs.Messages.Kinds.{Message, TreeMessage, lines_below, lines_from, of_tree}, proofs.Numbered.below_and_from}
 use Rattle.ffs_report.specs.{Progress.{Progress, Said, Stopped}, PhaseOutcome.{SaidTo, SaidOf}}
 use Rattle.ffs_image.specs.Known.{ForBytes}
 use Rattle.ffs_report.specs.PhaseOutcome.{FirstMessages, HeadingFirst, PhaseReports}
@@ -95,6 +95,21 @@ stops_heading {lines = lines} {m = m} p =
 pub of_same : {knows : List ℕ → Type 0} {rest rest' all : List ℕ → List Message} {a b : Progress} →
     SaidOf knows rest all a b → ForBytes knows (λ bytes. rest bytes ≡ rest' bytes) → SaidOf knows rest' all a b
 of_same {knows} {rest} {rest'} {all} {a} {b} p e = grind arith
+
+-- where the lines of the numbers from d on are to come, those of the numbers below were said
+pub said_below : {knows : List ℕ → Type 0} {a b : Progress} (m : Message) (lines : List ℕ → ℕ → List TreeMessage)
+    (d n : ℕ) → d ≤ n → SaidOf knows (λ bytes. map of_tree (lines_from (lines bytes) d (n - d)))
+    (λ bytes. m ∷ map of_tree (lines_below (lines bytes) n)) a b →
+    SaidOf knows (λ bytes. []) (λ bytes. m ∷ map of_tree (lines_below (lines bytes) d)) a b
+said_below m lines d n low p = record {
+  messages = p.messages;
+  right = λ bytes k.
+      let all : d + (n - d) ≡ n = omega (arith, low) in
+      append-nil _ ∙ append_cancel_right _ _ _ (p.right bytes k
+      ∙ ap (λ ms. m ∷ map of_tree ms) (ap (lines_below (lines bytes)) (sym all) ∙ below_and_from (lines bytes) (n - d) d)
+      ∙ ap (λ ms. m ∷ ms) (map-append of_tree (lines_below (lines bytes) d) _));
+  said = p.said;
+}
 
 -- a part of a phase answered Ok, or a fault
 pub of_part : {knows : List ℕ → Type 0} {rest part rest' all : List ℕ → List Message} {a b c : Progress} →

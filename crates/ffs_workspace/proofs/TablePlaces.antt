@@ -11,7 +11,7 @@ use Rattle.ffs_volume.proofs.{AreaLaws.inode_group, GeometryLaws.shape_holds}
 use Rattle.ffs_image.specs.declared.image.ImageFault.{ImageFault}
 use Rattle.ffs_walk.specs.Windows.{WindowHolds}
 use Rattle.ffs_workspace.specs.{declared.table.Table.Table, Tables.{DividesBlock, DividesBlocks, table_place}}
-use Rattle.ffs_workspace.specs.Tables.{FailsInPiece, HoldsInode, IsInPlace, IsTableOf, IsHeldAt, IsTableSector}
+use Rattle.ffs_workspace.specs.Tables.{FailsInPiece, HoldsInode, IsInPlace, IsTableOf, IsHeldAt, IsSectorOfInode, IsTableSector}
 
 -- a block holds whole inodes
 block_whole : (n : ℕ) → is_block_size n ≡ true → 128 * (n / 128) ≡ n
@@ -160,8 +160,12 @@ pub inode_there : {T : Type 0} (value : Inode → T) (v : Layout) (x at : ℕ) (
 unfolding inode_of
 inode_there value v x at bytes held held' i same there is = grind arith
 
--- a read of the block of an inode of the volume fails in a sector of the inode tables
+-- a read of the block of an inode fails in its sector, which is one of the inode tables if the inode is of the volume
+pub fails_in_block : (T : Type 0) (v : Layout) (x : ℕ) (t : Table) (fault : ImageFault) →
+    FailsInPiece {T = T} v v.inopb x t (Err fault) → IsSectorOfInode v x fault.sector
+unfolding FailsInPiece
+fails_in_block T v x t fault h = h.1
+
 pub fails_in_table : (T : Type 0) (v : Layout) (x : ℕ) (t : Table) (fault : ImageFault) → x < inodes_of v →
     FailsInPiece {T = T} v v.inopb x t (Err fault) → IsTableSector v fault.sector
-unfolding FailsInPiece
-fails_in_table T v x t fault low h = (x, low, h.1)
+fails_in_table T v x t fault low h = (x, low, fails_in_block T v x t fault h)

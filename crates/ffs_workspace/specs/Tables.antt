@@ -1,6 +1,6 @@
 -- What the window on the inode table holds.
 use Rattle.std.specs.Prelude.{◌≡◌, ◌*◌, ◌+◌, ◌-◌, ◌/◌, ◌%◌, ◌<◌, ◌≤◌, ℕ, Bool, ◌&&◌, nat_le, nat_lt, List, Option}
-use Rattle.std.specs.{Prelude.{Result, IfOk, IsOk, OnOk, if◌then◌else◌, vec_len}, List.slice_range}
+use Rattle.std.specs.{Prelude.{Result, IfOk, IsOk, OnErr, OnOk, if◌then◌else◌, vec_len}, List.slice_range}
 use Rattle.ffs_image.specs.{Device.{Device, ForContents}, Reads.{ReadAfter, ReadsAtMostOnce}, declared.image.ImageFault.ImageFault}
 use Rattle.ffs_memory.specs.declared.fixed_list.FixedList.{FixedList}
 use Rattle.ffs_volume.specs.declared.{constants.TheConstants.{DEV_BSIZE, DINODE_SIZE}, Inode.Inode, Layout.Layout}
@@ -28,9 +28,17 @@ pub record HasPiece (v : Layout) (n x : ℕ) : Type 0 where
 abbrev pub table_place : Layout → (n x : ℕ) → ℕ
 table_place v n x = (cgstart v (x / v.ipg) + v.iblkno) * v.fsize + x % v.ipg / n * (n * DINODE_SIZE)
 
+-- the block of the inode table that has the inode x begins in this sector
+abbrev pub IsSectorOfInode : Layout → (x sector : ℕ) → Type 0
+IsSectorOfInode v x sector = sector ≡ table_place v v.inopb x / DEV_BSIZE
+
+-- a read of the inode x failed in this sector, of its block, while what was said stayed as it was
+abbrev pub FailsBeforeLine : {S : Type 0} → Layout → (x : ℕ) → (said said' : S) → (sector : ℕ) → Type 0
+FailsBeforeLine v x said said' sector = IsSectorOfInode v x sector × (said' ≡ said)
+
 -- a block of the inode table begins in this sector
 abbrev pub IsTableSector : Layout → (sector : ℕ) → Type 0
-IsTableSector v sector = (x : ℕ) × (x < inodes_of v) × (sector ≡ table_place v v.inopb x / DEV_BSIZE)
+IsTableSector v sector = (x : ℕ) × (x < inodes_of v) × IsSectorOfInode v x sector
 
 -- how many inodes of 128 bytes a sector of 512 bytes has, and how many eight sectors have
 abbrev pub sector_inodes : ℕ
@@ -96,7 +104,8 @@ pub record TableAfter {T : Type 0} (v : Layout) (d d' : Device) (t : Table) (res
     pub kept : TableHolds v d'.contents t
     pub read : ReadAfter d d' result
 
--- the piece of n inodes of the table that has the inode x is read, by one read at most
+-- the piece of n inodes of the table that has the inode x is read, by one read at most; a table whose read failed
+-- begins where it did
 pub record ReadsPiece {T : Type 0} (v : Layout) (n x : ℕ) (old new : ImageWith Table)
     (result : Result T ImageFault) : Type 0 where
   pub has : OnOk result (HoldsInode new.cache x)
@@ -104,6 +113,7 @@ pub record ReadsPiece {T : Type 0} (v : Layout) (n x : ℕ) (old new : ImageWith
   pub leaves : TableAfter v old.image new.image new.cache result
   pub counted : new.reads ≤ old.reads + 1
   pub sector : FailsAt (table_place v n x) result
+  pub begins : OnErr result (new.cache.first ≡ old.cache.first)
 
 -- the inode x is read: it is that of the image's bytes, where the image gives them, and the table holds
 -- what the image gives
@@ -145,6 +155,7 @@ pub record LoadsInode (v : Layout) (x : ℕ) (old new : ImageWith Table) (result
   pub again : HoldsInode old.cache x → new.reads ≤ old.reads
   pub block : TakesPiece v v.inopb x old.cache new.cache result
   pub fault : FailsInPiece v v.inopb x old.cache result
+  pub begins : OnErr result (new.cache.first ≡ old.cache.first)
 
 -- the inode x is read, with its piece of n inodes: once at most, and not where the table held it
 pub record ReadsInodeOnce (v : Layout) (n x : ℕ) (old new : ImageWith Table)
@@ -154,6 +165,7 @@ pub record ReadsInodeOnce (v : Layout) (n x : ℕ) (old new : ImageWith Table)
   pub again : HoldsInode old.cache x → new.reads ≤ old.reads
   pub piece : TakesPiece v n x old.cache new.cache result
   pub fault : FailsInPiece v n x old.cache result
+  pub begins : OnErr result (new.cache.first ≡ old.cache.first)
 
 -- a table over a list that holds no inode, and so what any image of any layout gives
 pub record IsEmptyTable (list : FixedList ℕ) (t : Table) : Type 0 where

@@ -186,6 +186,7 @@ impl Workspace {
     pub fn forget_windows(&mut self)
         ensures only { self.new ≡ record self.old { windows = self.new.windows } }
         ensures forgets { (v : Layout) (d : Device) → IsReady v d self.old → CanRead v d self.new }
+        ensures begins { self.new.windows.table.first ≡ self.old.windows.table.first }
     {
         self.windows.table.forget();
         self.windows.table.window.length = 0;

@@ -9,7 +9,7 @@ use Rattle.ffs_workspace.{specs.{Found.WithSurvey, declared.workspace.Workspace.
 use Rattle.ffs_volume.specs.Blocks.Inodes.{inodes_of}
 use Rattle.ffs_workspace.proofs.Leaving.{claims_left, survey_left, leaves_more, windows_leave}
 use Rattle.ffs_volume.specs.Directories.Connectivity.{unref_dir_lines}
-use Rattle.ffs_connectivity.{specs.Faults.lines_from_dir, proofs.UnrefLines.{fails_after, leaders_held, lines_begin}}
+use Rattle.ffs_connectivity.proofs.UnrefLines.{fails_after, leaders_held, lines_begin, lines_from_dir}
 use Rattle.ffs_connectivity.proofs.pass3.phase3.Goals.{At-loop-number}
 use Rattle.ffs_connectivity.proofs.pass3.phase3.Given as given
 use Rattle.ffs_connectivity.proofs.pass3.phase3.Goals as goal

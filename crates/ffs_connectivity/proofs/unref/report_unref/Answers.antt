@@ -1,12 +1,11 @@
-use Rattle.std.proofs.{Common.{◌≡◌, ◌∷◌, [], map, refl, ◌∙◌, arith, rules, true, Err}, lemmas.Result.err_from_is_err_and}
+use Rattle.std.proofs.{Common.{◌≡◌, ◌∷◌, [], map, refl, ◌∙◌, arith, rules, true}, lemmas.Result.err_from_is_err_and}
 use Rattle.ffs_volume.specs.{Directories.{Connectivity.is_unref_dir, Volumes.volume_of}, Messages.Kinds.of_tree}
-use Rattle.ffs_report.specs.Progress.{progress}
 use Rattle.ffs_report.proofs.Paying.{paid_none, paid_reads, paid_stops}
 use Rattle.ffs_image.specs.Known.{ForBytes}
 use Rattle.ffs_report.proofs.Reporting.{reads_first, says_none, stops_all}
-use Rattle.ffs_workspace.{specs.Found.WithSurvey, proofs.TablePlaces.fails_in_table}
+use Rattle.ffs_workspace.{specs.Found.WithSurvey, proofs.TablePlaces.{fails_in_block, fails_in_table}}
 use Rattle.ffs_volume.specs.Directories.Connectivity.{unref_dir_lines}
-use Rattle.ffs_connectivity.proofs.{UnrefLaws.unref_held, UnrefLines.{attributes_are, fails_before, one_line}}
+use Rattle.ffs_connectivity.proofs.{UnrefLaws.unref_held, UnrefLines.{attributes_are, one_line}}
 use Rattle.ffs_connectivity.proofs.{UnrefLines.{silent, heard}, unref.report_unref.Goals.After-is_unref-unref}
 use Rattle.ffs_connectivity.proofs.unref.report_unref.Goals.{After-of}
 use Rattle.ffs_connectivity.proofs.unref.report_unref.Given as given
@@ -51,14 +50,7 @@ pub returns-in_err-inode-clause-sector : goal.returns-in_err-inode-clause-sector
 returns-in_err-inode-clause-sector g c = grind (arith, err_from_is_err_and, fails_in_table)
 
 pub returns-in_err-inode-clause-before_fault : goal.returns-in_err-inode-clause-before_fault
-returns-in_err-inode-clause-before_fault g c =
-    let p = err_from_is_err_and c.from_residual.result c.from_residual.ensures.1 in
-    let test = tested g (goal.at.returns-in_err-inode-clause-before_fault g c).After-is_unref-unref in
-    let fault = c.in_err-inode.field-0.0 in
-    let failed : c.inode.result ≡ Err fault = grind arith in
-    let fails = fails_before _ _ (progress g.W.Output.sink c.args.report.now) fault c.inode.ensures.inode.fault failed
-    (λ bytes k. test bytes k ∙ c.if-not-unref.false) in
-    grind arith
+returns-in_err-inode-clause-before_fault g c = grind (arith, err_from_is_err_and, fails_in_block, tested)
 
 pub returns-in_err-inode-clause-paid : goal.returns-in_err-inode-clause-paid
 returns-in_err-inode-clause-paid g c = grind (arith, err_from_is_err_and, paid_reads)

@@ -6,11 +6,7 @@ use Rattle.ffs_report.proofs.Reporting.{of_part, of_same, reports_knowing, said_
 use Rattle.ffs_report.proofs.Reporting.{heading_part, stops_heading}
 use Rattle.ffs_image.specs.Known.{ForBytes}
 use Rattle.ffs_workspace.{specs.Found.WithFindings, proofs.Leaving.findings_held}
-use Rattle.ffs_counts.proofs.Holding.{held_on, lines_after, lines_begin, passed_lines}
-use Rattle.ffs_counts.proofs.{Holding.passed_below, InodesBelow.{fails_before, heading_before, inode_next}}
-use Rattle.ffs_counts.proofs.SaidMore.{said_part, said_same}
-use Rattle.ffs_counts.specs.BeforeFault.{messages_before_inode}
-use Rattle.ffs_report.proofs.Reporting.{says_all}
+use Rattle.ffs_counts.proofs.{Holding.{held_on, lines_after, lines_begin, passed_lines}, InodesBelow.fails_before}
 use Rattle.ffs_counts.proofs.pass4.phase4.Goals.{After-skipped_from-skipped, At-loop-number}
 use Rattle.ffs_counts.proofs.pass4.phase4.Given as given
 use Rattle.ffs_counts.proofs.pass4.phase4.Goals as goal
@@ -27,13 +23,6 @@ passed : (g : given.Over) (c : After-skipped_from-skipped g) →
     (λ bytes. lines_after c.args.geometry.now.layout c.loop-number.number bytes
     ≡ lines_after c.args.geometry.now.layout (c.loop-number.number + c.skipped_from-skipped.result) bytes)
 passed g c bytes k = grind (arith, passed_lines)
-
-passed_before : (g : given.Over) (c : After-skipped_from-skipped g) →
-    ForBytes (WithFindings c.args.geometry.now.layout (g.I.Image.device c.args.image.now) c.args.workspace.now)
-    (λ bytes. messages_before_inode c.args.geometry.now.layout
-    (c.loop-number.number + c.skipped_from-skipped.result) bytes
-    ≡ messages_before_inode c.args.geometry.now.layout c.loop-number.number bytes)
-passed_before g c bytes k = grind (arith, passed_below)
 
 pub returns-in_err-say-clause-text : goal.returns-in_err-say-clause-text
 returns-in_err-say-clause-text g c =
@@ -57,7 +46,6 @@ loop-number-init g c =
       held = c.forget_windows.ensures.only;
       reads = λ bytes k. let all = as_many _ _ (lines_begin v bytes) in omega (arith, all);
       said = says_heading (λ bytes k. lines_begin v bytes) c.in_ok-say.ensures.said;
-      before = says_all (λ bytes k. heading_before v bytes) c.in_ok-say.ensures.said;
       heading = heading_alone c.in_ok-say.ensures.said;
       paid = paid_says _ c.in_ok-say.ensures.said (omega arith) (omega arith);
     }
@@ -81,7 +69,7 @@ returns-in_err-report_references-clause-before_fault g c =
     let p = err_from_is_err_and c.from_residual-in_err-report_references.result
     c.from_residual-in_err-report_references.ensures.1 in
     rw (p.1, p.2) (fails_before (Unit {0}) (Unit {0}) _ c.args.geometry.now.layout c.loop-number.number _ _ _
-    c.in_err-report_references.field-0.0 (omega (arith, c.loop-number-test.true)) c.loop-number.invariant.before c.in_err-report_references.ensures.before_fault)
+    c.in_err-report_references.field-0.0 (omega (arith, c.loop-number-test.true)) c.loop-number.invariant.said c.in_err-report_references.ensures.before_fault)
 
 pub loop-number-preserved-then-skipped-eq0 : goal.loop-number-preserved-then-skipped-eq0
 loop-number-preserved-then-skipped-eq0 g c =
@@ -100,13 +88,12 @@ loop-number-preserved-then-skipped-eq0 g c =
           (λ bytes k. from_next (reference_lines_at (volume_of v bytes)) n (inodes_of v)
           (omega (arith, c.loop-number-test.true)))
           (said_knows more ok.text);
-      before = said_part inv.before (λ bytes k. inode_next v n bytes) (said_knows more ok.text);
       heading = heading_part _ _ (Ok tt) inv.heading ok.text;
       paid = paid_then inv.paid (paid_answer ok.paid);
     }
 
 pub loop-number-preserved : goal.loop-number-preserved
-loop-number-preserved g c = grind (arith, passed, passed_before, as_many, of_same, said_same)
+loop-number-preserved g c = grind (arith, passed, as_many, of_same)
 
 pub returns-clause-text : goal.returns-clause-text
 returns-clause-text g c = grind (arith, of_same, from_end)

@@ -1,10 +1,9 @@
-use Rattle.std.proofs.Common.{◌≡◌, ◌+◌, ◌-◌, ◌≤◌, length, [], Ok}
+use Rattle.std.proofs.Common.{◌≡◌, ◌+◌, ◌-◌, ◌≤◌, length, Ok}
 use Rattle.ffs_report.specs.{Paid.Paid, PhaseOutcome.{HeadingFirst, SaidOf}, Progress.progress}
 use Rattle.ffs_image.specs.Known.{ForBytes}
 use Rattle.ffs_volume.specs.Directories.{ReferenceCheck.{reference_lines_at, reference_lines}, Volumes.volume_of}
 use Rattle.ffs_volume.specs.{Messages.Kinds.{lines_from, phase4}, Report.Whole.phase4_messages, Blocks.Inodes.inodes_of}
 use Rattle.ffs_workspace.specs.{Found.WithFindings, Ready.CanRead}
-use Rattle.ffs_counts.specs.BeforeFault.{messages_before_inode}
 use Rattle.ffs_counts.proofs.Holding.{lines_after}
 use Rattle.ffs_counts.proofs.pass4.phase4.Given as goal
 
@@ -22,9 +21,6 @@ invariant-loop-number g l = record {
   said : SaidOf (WithFindings l.geometry.layout (g.I.Image.device l.fn.image) l.fn.workspace)
       (lines_after l.geometry.layout l.number)
       (phase4_messages l.geometry.layout)
-      (progress g.W.Output.sink l.fn.report) (progress g.W.Output.sink l.report);
-  before : SaidOf (WithFindings l.geometry.layout (g.I.Image.device l.fn.image) l.fn.workspace) (λ bytes. [])
-      (messages_before_inode l.geometry.layout l.number)
       (progress g.W.Output.sink l.fn.report) (progress g.W.Output.sink l.report);
   heading : HeadingFirst {T = Unit {0}} phase4 (progress g.W.Output.sink l.fn.report)
       (progress g.W.Output.sink l.report) (Ok tt);

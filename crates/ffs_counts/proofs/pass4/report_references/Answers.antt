@@ -5,10 +5,9 @@ use Rattle.ffs_volume.specs.Messages.Kinds.{TreeMessage, of_tree}
 use Rattle.ffs_report.proofs.Paying.{paid_none, paid_reads, paid_says, paid_stops}
 use Rattle.ffs_image.specs.Known.{ForBytes}
 use Rattle.ffs_report.proofs.Reporting.{reads_first, says_all, says_none, stops_all}
-use Rattle.ffs_workspace.{specs.{Found.WithFindings, Ready.LeavesAllButWindows}, proofs.{Readiness.can_read_table, TablePlaces.fails_in_table}}
+use Rattle.ffs_workspace.{specs.{Found.WithFindings, Ready.LeavesAllButWindows}, proofs.{Readiness.can_read_table, TablePlaces.{fails_in_block, fails_in_table}}}
 use Rattle.ffs_counts.{specs.References.lines_as, proofs.Holding.{inode_reference_lines_are, item_at, met_lines}}
 use Rattle.ffs_counts.proofs.Holding.{same_reported, some_lines, unmet_line, unmet_reported}
-use Rattle.ffs_counts.proofs.InodesBelow.{fails_in_block}
 use Rattle.ffs_counts.proofs.pass4.report_references.Goals.{After-inode}
 use Rattle.ffs_counts.proofs.pass4.report_references.Goals.{After-line_for-line, In_ok-inode}
 use Rattle.ffs_counts.proofs.pass4.report_references.Given as given

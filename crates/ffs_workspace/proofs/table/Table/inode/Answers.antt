@@ -19,4 +19,5 @@ returns-clause-inode g c = record {
   again = c.load.ensures.loads.again;
   piece = c.in_ok-at.ensures.loads.block;
   fault = (λ held. refl, tt);
+  begins = tt;
 }

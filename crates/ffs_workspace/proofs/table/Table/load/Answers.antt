@@ -23,4 +23,5 @@ returns-clause-loads g c =
       again = grind (arith, common_steps);
       block = grind (arith, common_steps);
       fault = (λ held. refl, tt);
+      begins = tt;
     }

@@ -25,4 +25,5 @@ returns-clause-reads g c = record {
   };
   counted = c.fill.ensures.fills.counted;
   sector = tt;
+  begins = tt;
 }
