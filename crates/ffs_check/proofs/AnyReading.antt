@@ -1,5 +1,5 @@
 -- How often a check reads any image, from the phases to the whole.
-use Rattle.std.proofs.Common.{◌≡◌, ◌≤◌, ◌+◌, ◌*◌, ◌∙◌, ℕ, Bool, false, inl, inr, sym, ap, arith, List, [], ◌∷◌, ◌++◌}
+use Rattle.std.proofs.Common.{◌≡◌, ◌≤◌, ◌+◌, ◌*◌, ◌∙◌, ℕ, Bool, false, Option, inl, inr, sym, ap, arith, List, [], ◌∷◌, ◌++◌}
 use Rattle.std.proofs.{Common.{append-nil, append_assoc, length, length-append, Ok, Err, subst, Result}, Math.Nat.mul-le-mul_left}
 use Rattle.ffs_image.specs.Device.{Device}
 use Rattle.ffs_volume.specs.{declared.{Layout.Layout, End.End}, Messages.{Kinds.{Message, cannot_alloc, cannot_read}}}
@@ -83,9 +83,10 @@ unstarted_reads v image reads a b end working e = record {
 }
 
 -- the opening was said, and then the phases
-pub opened_reads : (v : Layout) (a b c : Moment) (lines : List Message) → Took a.out b.out (texts_of lines) →
-    b.reads ≤ a.reads + opening_reads → ReadsByMessages (phase_reads v) b c → ReadsByMessages (reads_limit v) a c
-opened_reads v a b c lines went opened p =
+pub opened_reads : (sector : Option ℕ) (v : Layout) (a b c : Moment) (lines : List Message) →
+    Took a.out b.out (texts_of lines) → b.reads ≤ a.reads + opening_reads sector →
+    ReadsByMessages (phase_reads v) b c → ReadsByMessages (reads_limit sector v) a c
+opened_reads sector v a b c lines went opened p =
     let all = append_assoc lines p.said p.last in
     let long = ap length all ∙ length-append lines (p.said ++ p.last) in
     record {

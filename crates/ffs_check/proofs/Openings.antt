@@ -6,9 +6,8 @@ use Rattle.ffs_volume.specs.declared.{SuperFault.{SuperFault, TheVariants.Magic}
 use Rattle.ffs_volume.specs.{Disk.{Superblock.Superblock, Outcome.outcome}, Messages.Kinds.{Message, has_defect}}
 use Rattle.ffs_volume.specs.Report.Opening.{fault_line, found_lines, head_lines, opening_lines, super_lines}
 use Rattle.ffs_report.{specs.{Progress.{Progress, Said, Stopped}, Sink.Sink}, proofs.Reports.{said_then, stopped_after}}
-use Rattle.ffs_layout.specs.{declared.superblock.Super.Super, Super.{ReadsSuper, may_read_copy, superblock_in}}
-use Rattle.ffs_volume.specs.Report.Reads.{opening_reads}
-use Rattle.ffs_check.specs.{Moment.Moment, Opening.{IsWorkingAfter, OpeningOf, Opens, superblock_reads}}
+use Rattle.ffs_layout.specs.{declared.superblock.Super.Super, Super.{ReadsSuper, superblock_in}}
+use Rattle.ffs_check.specs.{Moment.Moment, Opening.{IsWorkingAfter, OpeningOf, Opens}}
 use Rattle.ffs_check.proofs.EndLaws.{broke_more, broke_off}
 
 -- what is found where nothing has been read
@@ -120,16 +119,6 @@ opened name sector s old head new fresh said more =
       defect = whole.defect ∙ ap (λ d. d || has_defect (head_lines name sector ++ super_lines s)) fresh.defect
           ∙ no_defect_head name sector (super_lines s);
     }
-
--- a copy is read only where no sector is asked for
-pub super_read : (sector : Option ℕ) (found : Result Superblock SuperFault) (a b : ℕ) → b ≤ a + opening_reads →
-    (may_read_copy sector found ≡ false → b ≤ a + 1) → b ≤ a + superblock_reads sector
-super_read None found a b most once = most
-super_read (Some at) found a b most once = once refl
-
-pub super_few : (sector : Option ℕ) (a b : ℕ) → b ≤ a + superblock_reads sector → b ≤ a + opening_reads
-super_few None a b few = few
-super_few (Some at) a b few = omega (arith, few)
 
 -- the same of outputs by other names for them
 pub opens_at : {W : Type 0} (sink : W → Sink) (a a' b b' : W) {name : List ℕ} {sector : Option ℕ}

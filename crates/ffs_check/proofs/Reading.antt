@@ -21,7 +21,7 @@ report_among bytes name sector s accepted =
 
 -- a superblock was accepted, and the phases follow, or nothing is read any more
 pub found_within : (name : List ℕ) (sector : Option ℕ) (old on new : Moment) (found : Super) →
-    OpeningOf name sector old on (Ok found) → on.reads ≤ old.reads + opening_reads →
+    OpeningOf name sector old on (Ok found) → on.reads ≤ old.reads + opening_reads sector →
     ForContents on.image.contents (λ bytes. PhasesReadWithin (superblock_in found) bytes on.reads new.reads) →
     ReadsWithin name sector old new
 found_within name sector old on new found o opened follows =
@@ -48,6 +48,6 @@ found_within name sector old on new found o opened follows =
     found_or (Err fault) d = d
 
 -- nothing was read but the superblock and its last copy
-pub opened_within : (name : List ℕ) (sector : Option ℕ) (old new : Moment) → new.reads ≤ old.reads + opening_reads →
+pub opened_within : (name : List ℕ) (sector : Option ℕ) (old new : Moment) → new.reads ≤ old.reads + opening_reads sector →
     ReadsWithin name sector old new
 opened_within name sector old new opened = grind arith

@@ -19,7 +19,7 @@ accepted_by image image' sector s (inr read) = λ bytes t. sym (read.1 bytes t)
 pub costs_of : (name : List ℕ) (sector : Option ℕ) (old on new : Moment) (found : Super) (held held' : Account) →
     OpeningOf name sector old on (Ok found) →
     found.geometry.layout.size * found.geometry.layout.fsize ≤ old.image.size →
-    AsksMemory held held' (held_of found.geometry.layout) → on.reads ≤ old.reads + opening_reads →
+    AsksMemory held held' (held_of found.geometry.layout) → on.reads ≤ old.reads + opening_reads sector →
     ReadsByMessages (phase_reads found.geometry.layout) on new → CostsOfVolume sector old new held held'
 costs_of name sector old on new found held held' o inside a opened phases = record {
   memory = record {
@@ -31,7 +31,7 @@ costs_of name sector old on new found held held' o inside a opened phases = reco
     asked = a;
     within = omega arith;
   };
-  reads = opened_reads found.geometry.layout old on new (opening_lines name sector o.found) o.ends.0 opened phases;
+  reads = opened_reads sector found.geometry.layout old on new (opening_lines name sector o.found) o.ends.0 opened phases;
 }
 
 not_by : (on defect : Bool) → end_by on defect ≡ NoMemory → ⊥

@@ -10,12 +10,12 @@ use Rattle.ffs_check.specs.{Moment.Moment, Reads.ReadsByMessages, Taken.TakesWor
 -- the messages that went out (`ReadsByMessages` says of which images and outputs that says something)
 pub record CostsOfVolume (asked_sector : Option ℕ) (old new : Moment) (before after : Account) : Type 0 where
   pub memory : TakesWorkspace old.image asked_sector before after
-  pub reads : ReadsByMessages (reads_limit memory.found.layout) old new
+  pub reads : ReadsByMessages (reads_limit asked_sector memory.found.layout) old new
 
 -- nothing is taken, and the superblock and a copy alone are read; or a volume is accepted. A check ends as
 -- `NoMemory` only where a request was refused
 pub record Costs (asked_sector : Option ℕ) (old new : Moment) (before after : Account) (end : End) : Type 0 where
-  pub most : ((after ≡ before) × (new.reads ≤ old.reads + opening_reads))
+  pub most : ((after ≡ before) × (new.reads ≤ old.reads + opening_reads asked_sector))
       ⊎ CostsOfVolume asked_sector old new before after
   pub refused : end ≡ NoMemory → RefusedOneMore before after
 

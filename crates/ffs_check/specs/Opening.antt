@@ -52,11 +52,6 @@ pub record OpeningOf (name : List ℕ) (asked_sector : Option ℕ) (old new : Mo
   pub super_is_read : ReadsSuper old.image new.image asked_sector found
   pub ends : OpeningEnds name asked_sector old new found result
 
--- how often an opening reads the image at most: the superblock, and its last copy where no sector is asked for
-abbrev pub superblock_reads : (asked_sector : Option ℕ) → ℕ
-superblock_reads None = opening_reads
-superblock_reads (Some sector) = 1
-
 -- an accepted volume lies within the image, and a superblock that can't be read is a failed read, or
 -- the image ends before it does. No more is read than the superblock, and its last copy
 pub record AnswersOpening (asked_sector : Option ℕ) (old new : Moment) (result : Result Super End) : Type 0 where
@@ -64,7 +59,7 @@ pub record AnswersOpening (asked_sector : Option ℕ) (old new : Moment) (result
       (λ super. FitsIn super.geometry.layout old.image.size)
       (λ end. (sector : ℕ) → end ≡ Refused (CannotRead sector)
       → IsUnreadable old.image new.image asked_sector sector)
-  pub reads : new.reads ≤ old.reads + superblock_reads asked_sector
+  pub reads : new.reads ≤ old.reads + opening_reads asked_sector
 
 -- what the opening answers, and what went out of it
 pub record Opens (name : List ℕ) (asked_sector : Option ℕ) (old new : Moment) (result : Result Super End) : Type 0 where

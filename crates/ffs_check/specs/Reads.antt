@@ -15,15 +15,15 @@ pub record PhasesReadWithin (s : Superblock) (bytes : List ℕ) (reads reads' : 
   pub limit : reads' ≤ reads + phase_reads s.layout (length (phase_lines bytes s))
   pub volume : reads' ≤ reads + volume_phase_reads s.layout bytes
 
--- the whole check of an image that gives its bytes: at most twice where the superblock isn't
+-- the whole check of an image that gives its bytes: what the opening reads where the superblock isn't
 -- accepted, else within the limit, and within that by what its volume holds
 pub record ReadsWithin (name : List ℕ) (asked_sector : Option ℕ) (old new : Moment) : Type 0 where
   pub refused : ForContents old.image.contents (λ bytes. (fault : SuperFault) → outcome bytes asked_sector ≡ Err fault
-      → new.reads ≤ old.reads + opening_reads)
+      → new.reads ≤ old.reads + opening_reads asked_sector)
   pub accepted : ForContents old.image.contents (λ bytes. (s : Superblock) → outcome bytes asked_sector ≡ Ok s
-      → new.reads ≤ old.reads + reads_limit s.layout (length (report_of bytes name asked_sector)))
+      → new.reads ≤ old.reads + reads_limit asked_sector s.layout (length (report_of bytes name asked_sector)))
   pub volume : ForContents old.image.contents (λ bytes. (s : Superblock) → outcome bytes asked_sector ≡ Ok s
-      → new.reads ≤ old.reads + (opening_reads + volume_phase_reads s.layout bytes))
+      → new.reads ≤ old.reads + (opening_reads asked_sector + volume_phase_reads s.layout bytes))
 
 -- messages went out, or the output failed within the last of them, and there were no more reads than the
 -- limit for so many messages. It says nothing of an image that counts no reads, as a file (its `reads` is 0), nor

@@ -14,7 +14,7 @@ use Rattle.ffs_finding.specs.{declared.request.Command.TheVariants.InVolume}
 use Rattle.ffs_finding.specs.Headline.{AnswersCommand, AnswersWith, FindsTarget, GroundsOf, IsAcceptedIn, IsGranted}
 use Rattle.ffs_finding.specs.Headline.{IsReadFor, IsRefusedBy, IsSectorFor, TakesForTarget, TakesMemory}
 use Rattle.ffs_finding.{specs.Headline.{PrintedAll, lines_by, target_lines}, proofs.Printing.{first_knowing, printed_knowing}}
-use Rattle.ffs_check.specs.Opening.{superblock_reads}
+use Rattle.ffs_volume.specs.Report.Reads.{opening_reads}
 
 -- memory was refused, where the answer says so
 refused : (target : Target) (v : Layout) (held held' : Account) → TakesForTarget target v held held' (Err NoMemory) →
@@ -76,7 +76,7 @@ takes (Owner fragment) sector s d held held' r accepted sound inside p = grind a
 pub answered : (target : Target) (sector : Option ℕ) (s : Superblock) (d : Device) (before between : ℕ) (a : Sink)
     (m : Moment) (held held' : Account) (r : Result Bool FindFault) →
     ForContents d.contents (λ b. outcome b sector ≡ Ok s) → IsAcceptedLayout s.layout →
-    s.layout.size * s.layout.fsize ≤ d.size → between ≤ before + superblock_reads sector →
+    s.layout.size * s.layout.fsize ≤ d.size → between ≤ before + opening_reads sector →
     FindsTarget target sector s (record { image = d; reads = between; out = a }) m r →
     TakesForTarget target s.layout held held' r →
     AnswersCommand (InVolume target sector) (record { image = d; reads = before; out = a }) m held held' r

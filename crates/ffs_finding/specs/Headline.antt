@@ -6,14 +6,14 @@ use Rattle.ffs_image.specs.Device.{Device, ForContents}
 use Rattle.ffs_volume.specs.{declared.{Layout.Layout, SuperFault.{SuperFault, TheVariants.CannotRead}}, Laws.Geometry.IsAcceptedLayout}
 use Rattle.ffs_volume.specs.{declared.constants.TheConstants.DEV_BSIZE, Disk.{Areas.inode_place, Superblock.Superblock}}
 use Rattle.ffs_volume.specs.{Disk.Outcome.{outcome, super_sector}, Messages.Kinds.{cannot_read, cannot_alloc}}
-use Rattle.ffs_volume.specs.{Messages.Texts.text_of, Report.{Opening.fault_line, Reads.scan_reads}}
+use Rattle.ffs_volume.specs.{Messages.Texts.text_of, Report.{Opening.fault_line, Reads.{opening_reads, scan_reads}}}
 use Rattle.ffs_volume.specs.{Report.Reads.sweep_reads, Find.{Copies.copies_lines, InodeText.inode_listing}}
 use Rattle.ffs_volume.specs.Find.{Fields.wrong_fields, Lost.lost_lines, Owner.lines_of_fragment}
 use Rattle.ffs_volume.specs.Report.Memory.{held_of}
 use Rattle.ffs_report.specs.{Sink.Sink, declared.fault.RunFault.TheVariants.{Read, Out}}
 use Rattle.ffs_image.specs.Known.{IsContents}
 use Rattle.ffs_memory.specs.Account.{Account, Granted, GaveUp, RefusedOneMore}
-use Rattle.ffs_check.specs.{Moment.Moment, Opening.superblock_reads, Run.IsPrintedOrBrokeOff, Taken.{AsksMemory, Takes}}
+use Rattle.ffs_check.specs.{Moment.Moment, Run.IsPrintedOrBrokeOff, Taken.{AsksMemory, Takes}}
 use Rattle.ffs_layout.specs.Super.{IsUnreadable, ReadsSuper}
 use Rattle.ffs_finding.specs.declared.request.Target.{Target, TheVariants.{Inode, Fields, Lost, Owner}}
 use Rattle.ffs_finding.specs.declared.request.Command.{Command, TheVariants.{Copies, InVolume}}
@@ -157,13 +157,13 @@ pub record ReadsVolume (target : Target) (sector : Option ℕ) (d : Device) (bef
   pub accepted : ForContents d.contents (λ b. outcome b sector ≡ Ok found)
   pub sound : IsAcceptedLayout found.layout
   pub inside : FitsIn found.layout d.size
-  pub reads : after ≤ before + superblock_reads sector + target_reads target found.layout
+  pub reads : after ≤ before + opening_reads sector + target_reads target found.layout
 
 -- how often a command reads an image: in a volume the superblock, and what a target takes after it
 abbrev pub ReadsForCommand : Command → Device → (before after : ℕ) → Type 0
 ReadsForCommand Copies d before after = ReadsCopies d before after
 ReadsForCommand (InVolume target sector) d before after =
-    (after ≤ before + superblock_reads sector) ⊎ ReadsVolume target sector d before after
+    (after ≤ before + opening_reads sector) ⊎ ReadsVolume target sector d before after
 
 -- a command was carried out; the line of a fault is still to come
 pub record AnswersCommand (command : Command) (old new : Moment) (before after : Account)

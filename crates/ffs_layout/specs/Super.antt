@@ -1,5 +1,5 @@
 -- The value of a superblock in memory.
-use Rattle.std.specs.Prelude.{◌≡◌, ℕ, ◌+◌, ◌*◌, ◌<◌, ◌⊎◌, Bool, true, false, List, Option, None, Some, Result, Ok, Err}
+use Rattle.std.specs.Prelude.{◌≡◌, ℕ, ◌+◌, ◌*◌, ◌<◌, ◌⊎◌, Bool, true, false, List, Option, Some, Result, Ok, Err}
 use Rattle.ffs_volume.specs.declared.{constants.TheConstants.{DEV_BSIZE, SUPERBLOCK_BYTES}, SuperFault.SuperFault}
 use Rattle.ffs_volume.specs.declared.SuperFault.TheVariants.{CannotRead, Disagree}
 use Rattle.ffs_volume.specs.Disk.{Outcome.{super_sector, outcome, IsSuperSector}, Superblock.Superblock}
@@ -28,14 +28,12 @@ ReadsSuper old new sector found =
     (ReadFailed found old new × ((b : List ℕ) → old.contents ≡ Some b → IsSuperSector b sector new.failed_sector))
     ⊎ ((new ≡ old) × ((b : List ℕ) → old.contents ≡ Some b → found ≡ outcome b sector))
 
--- The last copy of the superblock may be read before this answer: no sector is asked for, and the
--- layout has no fault.
-abbrev pub may_read_copy : Option ℕ → Result Superblock SuperFault → Bool
-may_read_copy (Some sector) found = false
-may_read_copy None (Ok super) = true
-may_read_copy None (Err (CannotRead at)) = true
-may_read_copy None (Err Disagree) = true
-may_read_copy None (Err fault) = false
+-- The last copy of the superblock may be read before this answer: the layout has no fault.
+abbrev pub may_read_copy : Result Superblock SuperFault → Bool
+may_read_copy (Ok super) = true
+may_read_copy (Err (CannotRead at)) = true
+may_read_copy (Err Disagree) = true
+may_read_copy (Err fault) = false
 
 -- The superblock can't be read, and the fault names the sector `at`: a read failed there, or the
 -- superblock asked for begins at that sector, and would end past the image's end.

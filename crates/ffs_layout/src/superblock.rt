@@ -201,8 +201,8 @@ pub fn read_super<I: Image>(image: &mut I, sector: Option<u32>) -> Result<Super,
     ensures answer { ReadsSuper (I.device image.old) (I.device image.new) sector (found_of result) }
 
     // It reads the superblock, and the copy; the copy only where that is compared.
-    ensures reads { I.reads image.new ≤ I.reads image.old + opening_reads }
-    ensures once { may_read_copy sector (found_of result) ≡ false
+    ensures reads { I.reads image.new ≤ I.reads image.old + opening_reads sector }
+    ensures once { may_read_copy (found_of result) ≡ false
         → I.reads image.new ≤ I.reads image.old + 1 }
 
     // An image that ends before the superblock does isn't read.

@@ -1,6 +1,6 @@
 //! The most reads that a check may make (`Report/Reads` of `ffs_volume`).
 ghost use Rattle.std.specs.Prelude.{◌≡◌};
-ghost use Rattle.ffs_volume.specs.Report.Reads.{group_reads, pathname_reads, reads_limit, scan_reads};
+ghost use Rattle.ffs_volume.specs.Report.Reads.{group_reads, opening_reads, pathname_reads, reads_limit, scan_reads};
 ghost use Rattle.ffs_volume.specs.Report.Reads.{sweep_reads};
 ghost use Rattle.ffs_reads.specs.Limits.{in_u64, part_reads};
 
@@ -8,11 +8,18 @@ use crate::parts::Part;
 use ffs_layout::{Geometry, Layout};
 use ffs_workspace::{LINE_READS, RUNS_WITHOUT_CLAIM};
 
-/// The superblock, and the last copy of it.
-pub const OPENING_READS: u64 = 2;
-
 /// How many summary records are read at once.
 const RECORDS_AT_ONCE: u32 = 256;
+
+/// The superblock, and its last copy where no sector is asked for.
+pub fn opening_reads(sector: Option<u32>) -> u64
+    ensures { result ≡ opening_reads sector }
+{
+    match sector {
+        None => 2,
+        Some(_) => 1,
+    }
+}
 
 /// To go over all inodes and their blocks.
 fn sweep_reads(layout: &Layout) -> u64
@@ -68,8 +75,8 @@ pub fn part_reads(part: Part, geometry: &Geometry, messages: u64) -> u64
 }
 
 /// A whole check that says so many messages.
-pub fn reads_limit(geometry: &Geometry, messages: u64) -> u64
-    ensures { result ≡ in_u64 (reads_limit geometry.now.layout messages) }
+pub fn reads_limit(sector: Option<u32>, geometry: &Geometry, messages: u64) -> u64
+    ensures { result ≡ in_u64 (reads_limit sector geometry.now.layout messages) }
 {
     let layout = &geometry.layout;
     scan_reads(geometry)
@@ -77,5 +84,5 @@ pub fn reads_limit(geometry: &Geometry, messages: u64) -> u64
         .saturating_add(pathname_reads(layout, messages))
         .saturating_add(messages)
         .saturating_add(group_reads(layout))
-        .saturating_add(OPENING_READS)
+        .saturating_add(opening_reads(sector))
 }

@@ -3,7 +3,7 @@ ghost use Rattle.std.specs.Prelude.{◌*◌, ◌≤◌};
 ghost use Rattle.ffs_workspace.specs.Ready.{IsReady};
 ghost use Rattle.ffs_volume.specs.Disk.Areas.{FitsIn};
 
-use crate::limits::{OPENING_READS, part_reads, reads_limit};
+use crate::limits::{opening_reads, part_reads, reads_limit};
 use crate::messages::MessageCounter;
 use crate::parts::{PARTS, Part};
 use crate::row::Row;
@@ -42,15 +42,15 @@ impl Table {
             name: "opening",
             messages: 0,
             reads: image.reads(),
-            most: OPENING_READS,
+            most: opening_reads(sector),
         })?;
         let (reads, messages) = count_whole(alloc, &mut open(rt, name)?, name, sector);
         let most = match opened {
             Ok(superblock) => {
                 count_parts(alloc, &mut image, &superblock, &mut parts)?;
-                reads_limit(&superblock.geometry, messages)
+                reads_limit(sector, &superblock.geometry, messages)
             }
-            Err(_) => OPENING_READS,
+            Err(_) => opening_reads(sector),
         };
         let whole = Row {
             name: "whole",

@@ -1,11 +1,12 @@
 -- The most reads that a check makes of an image. A read is of one block, of one Run or part of a
 -- directory, or of records that are together in the image.
-use Rattle.std.specs.{Prelude.{ℕ, ◌+◌, ◌*◌, ◌/◌}, Int.div_ceil}
+use Rattle.std.specs.{Prelude.{ℕ, ◌+◌, ◌*◌, ◌/◌, Option, Some, None}, Int.div_ceil}
 use Rattle.ffs_volume.specs.{declared.{Layout.Layout, constants.TheConstants.MAXPATHLEN}, Report.Memory.runs_limit}
 
--- the opening reads the superblock, and the last copy of it
-abbrev pub opening_reads : ℕ
-opening_reads = 2
+-- the opening reads the superblock, and its last copy where no sector is asked for
+abbrev pub opening_reads : (asked_sector : Option ℕ) → ℕ
+opening_reads None = 2
+opening_reads (Some sector) = 1
 
 -- how many blocks the inode tables have, of `inopb` inodes each (fs(5))
 abbrev pub table_blocks : Layout → ℕ
@@ -51,5 +52,5 @@ abbrev pub phase_reads : Layout → (lines : ℕ) → ℕ
 phase_reads v lines = scan_reads v + sweep_reads v + pathname_reads v lines + lines + group_reads v
 
 -- the whole check reads this often at most
-abbrev pub reads_limit : Layout → (lines : ℕ) → ℕ
-reads_limit v lines = opening_reads + phase_reads v lines
+abbrev pub reads_limit : (asked_sector : Option ℕ) → Layout → (lines : ℕ) → ℕ
+reads_limit asked_sector v lines = opening_reads asked_sector + phase_reads v lines

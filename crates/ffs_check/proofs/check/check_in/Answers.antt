@@ -4,7 +4,7 @@ use Rattle.ffs_volume.specs.{declared.End.End}
 use Rattle.ffs_report.specs.{Progress.Progress, Sink.Sink}
 use Rattle.ffs_check.specs.{Headline.Headline, Moment.{Moment, at_output, moment, report_moment}, Costs.CostsOfVolume}
 use Rattle.ffs_check.proofs.{Counting.{reads_failed, writes_failed}, Follows.{found_ends, not_refused}}
-use Rattle.ffs_check.proofs.{Headlines.opening_ends, Openings.{opens_at, super_few}}
+use Rattle.ffs_check.proofs.{Headlines.opening_ends, Openings.opens_at}
 use Rattle.ffs_memory.specs.Account.{Account}
 use Rattle.ffs_check.proofs.{Reading.{found_within, opened_within}, Taken.{costs_of, opened_for_memory}}
 use Rattle.ffs_check.proofs.check.check_in.Goals as goal
@@ -59,7 +59,7 @@ returns-in-Ok-clause-failures g c = record {
 
 pub returns-in-Err-clause-costs : goal.returns-in-Err-clause-costs
 returns-in-Err-clause-costs g c = record {
-  most = inl (refl, super_few _ _ _ c.in-Err.ensures.opens.answers.reads);
+  most = inl (refl, c.in-Err.ensures.opens.answers.reads);
   refused = λ e. absurd (opened_for_memory _ _ _ _ _ c.in-Err.ensures.opens.opened e);
 }
 
@@ -72,19 +72,18 @@ returns-in-Ok-clause-costs g c =
     let follows = c.check_accepted.ensures.follows in
     record {
       most = inr (costs_at g.W.Output.sink c.check_accepted.new.report.out.now _ (costs_of _ _ old (at_output on) (at_output new)
-          c.in-Ok.superblock _ _ opens.opened opens.answers.inside_or_unreadable follows.memory.asked
-          (super_few _ _ _ opens.answers.reads)
+          c.in-Ok.superblock _ _ opens.opened opens.answers.inside_or_unreadable follows.memory.asked opens.answers.reads
           follows.reads.any) (search rules));
       refused = follows.memory.refused;
     }
 
 pub returns-in-Err-clause-reads : goal.returns-in-Err-clause-reads
-returns-in-Err-clause-reads g c = opened_within _ _ _ _ (super_few _ _ _ c.in-Err.ensures.opens.answers.reads)
+returns-in-Err-clause-reads g c = opened_within _ _ _ _ c.in-Err.ensures.opens.answers.reads
 
 pub returns-in-Ok-clause-reads : goal.returns-in-Ok-clause-reads
 returns-in-Ok-clause-reads g c =
     let old = moment g.I.Image g.W.Output c.args.image.now c.args.out.now in
     let on = report_moment g.I.Image g.W.Output c.say_opening.new.image c.say_opening.new.report in
     let opens = opens_at g.W.Output.sink _ _ _ _ c.in-Ok.ensures.opens (ap (λ (p : Progress). p.sink) c.new-report.ensures) refl in
-    found_within _ _ old (at_output on) _ c.in-Ok.superblock opens.opened (super_few _ _ _ opens.answers.reads)
+    found_within _ _ old (at_output on) _ c.in-Ok.superblock opens.opened opens.answers.reads
     c.check_accepted.ensures.follows.reads.known

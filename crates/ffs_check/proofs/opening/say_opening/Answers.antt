@@ -1,5 +1,5 @@
 use Rattle.std.proofs.Common.{arith, rules}
-use Rattle.ffs_check.proofs.Openings.{at_head, accepted, at_super, opened, refused, at_fault, super_read}
+use Rattle.ffs_check.proofs.Openings.{at_head, accepted, at_super, opened, refused, at_fault}
 use Rattle.ffs_check.proofs.opening.say_opening.Goals as goal
 
 pub returns-in-Err-clause-opens : goal.returns-in-Err-clause-opens
@@ -10,7 +10,7 @@ returns-in-Err-clause-opens g c = record {
 
 pub returns-in-Ok-say_super-clause-opens : goal.returns-in-Ok-say_super-clause-opens
 returns-in-Ok-say_super-clause-opens g c = record {
-  answers = record { inside_or_unreadable = search (rules, arith); reads = super_read _ _ _ _ c.in-Ok.ensures.reads c.in-Ok.ensures.once };
+  answers = record { inside_or_unreadable = search (rules, arith); reads = c.in-Ok.ensures.reads };
   opened = accepted _ _ _ _ _ _ c.requires.fresh _ _ _ c.in_default.ensures c.in-Ok.superblock c.in-Ok.ensures.answer
       c.in-Ok-say_super.ensures;
 }
@@ -21,21 +21,21 @@ returns-in-Ok-say_super-clause-said g c =
 
 pub returns-in-Err-say_super-clause-opens : goal.returns-in-Err-say_super-clause-opens
 returns-in-Err-say_super-clause-opens g c = record {
-  answers = record { inside_or_unreadable = search (rules, arith); reads = super_read _ _ _ _ c.in-Ok.ensures.reads c.in-Ok.ensures.once };
+  answers = record { inside_or_unreadable = search (rules, arith); reads = c.in-Ok.ensures.reads };
   opened = at_super _ _ _ _ _ _ c.requires.fresh _ _ _ c.in_default.ensures c.in-Ok.superblock c.in-Ok.ensures.answer
       c.in-Err-say_super.ensures;
 }
 
 pub returns-in-Ok-say-clause-opens : goal.returns-in-Ok-say-clause-opens
 returns-in-Ok-say-clause-opens g c = record {
-  answers = record { inside_or_unreadable = search (rules, arith); reads = super_read _ _ _ _ c.in-Err-read_super.ensures.reads c.in-Err-read_super.ensures.once };
+  answers = record { inside_or_unreadable = search (rules, arith); reads = c.in-Err-read_super.ensures.reads };
   opened = refused _ _ _ _ _ _ c.requires.fresh _ _ _ c.in_default.ensures c.in-Err-read_super.fault
       c.in-Err-read_super.ensures.answer (rw c.fault_line.ensures at c.in-Ok-say.ensures.said);
 }
 
 pub returns-in-Err-say-clause-opens : goal.returns-in-Err-say-clause-opens
 returns-in-Err-say-clause-opens g c = record {
-  answers = record { inside_or_unreadable = search (rules, arith); reads = super_read _ _ _ _ c.in-Err-read_super.ensures.reads c.in-Err-read_super.ensures.once };
+  answers = record { inside_or_unreadable = search (rules, arith); reads = c.in-Err-read_super.ensures.reads };
   opened = at_fault _ _ _ _ _ _ c.requires.fresh _ _ _ c.in_default.ensures c.in-Err-read_super.fault
       c.in-Err-read_super.ensures.answer (rw c.fault_line.ensures at c.in-Err-say.ensures.said);
 }

@@ -1,4 +1,4 @@
-use Rattle.std.proofs.{Common.{◌∙◌, arith, refl, rules, sym, ap}, lemmas.Result.err_from_is_err_and}
+use Rattle.std.proofs.{Common.{◌∙◌, arith, rules, sym, ap}, lemmas.Result.err_from_is_err_and}
 use Rattle.ffs_volume.specs.Find.Copies.{copy_lines_of}
 use Rattle.ffs_finding.proofs.Printing.{one, one_broken, prints_all, prints_none, stops_all, reads_first}
 use Rattle.ffs_finding.proofs.CopySteps.{no_line, one_read, same_super, holds_on}
@@ -40,9 +40,9 @@ returns-in_err-print_copy-in-Ok g c =
             (one_broken c.in_err-print_copy-in-Ok.ensures);
       };
       window = record { at = search rules; room = e.window.room; holds = holds_on e.read s.0 e.window.holds };
-      counted = λ b k. let reads = more b k in omega (arith, read.counted, reads, c.in-Ok.ensures.once refl);
-      again = λ at b k. let reads = more b k in omega (arith, read.again at, reads, c.in-Ok.ensures.once refl);
-      any = omega (arith, read.counted, c.in-Ok.ensures.once refl);
+      counted = λ b k. let reads = more b k in omega (arith, read.counted, reads, c.in-Ok.ensures.reads);
+      again = λ at b k. let reads = more b k in omega (arith, read.again at, reads, c.in-Ok.ensures.reads);
+      any = omega (arith, read.counted, c.in-Ok.ensures.reads);
     })
 
 pub returns-in_ok-print_copy-in-Ok : goal.returns-in_ok-print_copy-in-Ok
@@ -59,9 +59,9 @@ returns-in_ok-print_copy-in-Ok g c =
             (one c.in_ok-print_copy-in-Ok.ensures);
       };
       window = record { at = e.window.at; room = e.window.room; holds = holds_on e.read s.0 e.window.holds };
-      counted = λ b k. let reads = more b k in omega (arith, read.counted, reads, c.in-Ok.ensures.once refl);
-      again = λ at b k. let reads = more b k in omega (arith, read.again at, reads, c.in-Ok.ensures.once refl);
-      any = omega (arith, read.counted, c.in-Ok.ensures.once refl);
+      counted = λ b k. let reads = more b k in omega (arith, read.counted, reads, c.in-Ok.ensures.reads);
+      again = λ at b k. let reads = more b k in omega (arith, read.again at, reads, c.in-Ok.ensures.reads);
+      any = omega (arith, read.counted, c.in-Ok.ensures.reads);
     }
 
 pub returns-in-Err-CannotRead : goal.returns-in-Err-CannotRead
