@@ -104,6 +104,26 @@ def size_odd_left(case):
     case.run("all")
 
 
+@damage("a directory's size became larger, by a hole")
+def size_hole(case):
+    volume = case.volume
+    names_at_stake(case)
+    volume.put_inode(volume.find("docs/names"), size=volume.layout.bsize * 11 + 512)
+    path = case.report("DIRECTORY: CONTAINS EMPTY BLOCKS").first("DIRECTORY: CONTAINS EMPTY BLOCKS")["path"]
+    mend_size(case, case.run("number-of", path=path).strip())
+
+
+@damage("a directory's size became larger, within its last block")
+def size_chunk(case):
+    names_at_stake(case)
+    i = case.volume.find("docs/names")
+    case.volume.put_inode(i, size=case.volume.inode(i)["size"] + 512)
+    report = case.report()
+    if not report.of("DIRECTORY CORRUPTED"):
+        raise NotHere
+    mend_size(case, report.first("DIRECTORY CORRUPTED")["inode"])
+
+
 @damage("a directory's address became 0")
 def hole(case):
     put_names(case, direct1=0)
@@ -652,6 +672,22 @@ def root_address(case):
     case.report("UNKNOWN FILE TYPE", "ROOT INODE NOT DIRECTORY")
     k = max(fragments_of(case.run("inode", i=2)))
     mend(case, 2, "address", k=k, f=0)
+
+
+@damage("the size of inode 2 became 0")
+def root_size(case):
+    case.volume.put_inode(2, size=0)
+    case.at_stake(*case.tree)
+    case.report("UNKNOWN FILE TYPE", "ROOT INODE NOT DIRECTORY")
+    mend_size(case, 2)
+
+
+@damage("inode 2 became a link")
+def root_link(case):
+    case.volume.put_inode(2, mode=0o120755)
+    case.at_stake(*case.tree)
+    case.report("ROOT INODE NOT DIRECTORY")
+    mend(case, 2, "mode", mode="40755")
 
 
 @damage("the root's address points outside of the volume")

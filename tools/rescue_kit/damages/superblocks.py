@@ -337,6 +337,25 @@ def partition_lost(case):
     cut_out(case, lambda first, second: first - 32)
 
 
+@damage("the image is the second partition of a whole disk, right after another one")
+def second_partition(case):
+    case.in_one_order()
+    right = bytes(case.volume.image)
+    all_at_stake(case)
+    case.volume.image[:] = bytes(START * SECTOR) + right + right
+    case.report("BAD SUPER BLOCK")
+    lines = [line.split() for line in case.run("copies").splitlines()]
+    sectors = int(lines[0][3]) * int(lines[0][2].split("/")[1]) // SECTOR
+    first, second = [int(line[0]) for line in lines if int(line[0]) >= int(lines[0][0]) - 16 + sectors][:2]
+    if second - first != 16:
+        raise Wrong(f"the second partition's first copies are at {first} and {second}")
+    case.run("partition", start=first - 16, sectors=sectors)
+    if case.bytes_of("part.img") != right:
+        raise Wrong("what was cut out isn't the second partition")
+    os.rename(f"{case.place}/part.img", f"{case.place}/copy.img")
+    case.run("further check")
+
+
 START = 2048
 
 
