@@ -599,6 +599,27 @@ def root_and_group_zeroed(case):
     case.run("unnamed", **{"from": "every.img"})
 
 
+@damage("five damages at once: the last copy of the superblock, a group's block, inode 2, an entry and an indirect block")
+def five(case):
+    volume, layout = case.volume, case.volume.layout
+    numbers = files_of(case)
+    volume.put(volume.entry("mail/report_too"), 4, 99999)
+    volume.zero(volume.inode(volume.find("big/film"))["single"] * layout.fsize, layout.bsize)
+    volume.put_inode(2, mode=0)
+    volume.zero(layout.group_place(0), layout.bsize)
+    volume.zero(layout.copy_place(layout.ncg - 1), 1536)
+    case.at_stake(*numbers)
+    case.report("BAD SUPER BLOCK")
+    case.run("further last-copy keep")
+    case.check_again("ROOT INODE UNALLOCATED", "PARTIALLY ALLOCATED INODE")
+    case.run("further place mode keep", i=2, mode="40755")
+    found = case.check_again("I OUT OF RANGE", "LINK COUNT", "INCORRECT BLOCK COUNT", "CG: BAD MAGIC NUMBER")
+    case.run("further number keep", e=place_of(case, found.first("I OUT OF RANGE")["path"]), i=found.first("LINK COUNT")["inode"])
+    b = fragments_of(case.run("inode", i=found.first("INCORRECT BLOCK COUNT")["inode"]))[12]
+    case.run("further list refill keep", b=b)
+    case.run("every")
+
+
 @damage("a directory's inode was overwritten by that of a file")
 def inode_of_file(case):
     volume, layout = case.volume, case.volume.layout

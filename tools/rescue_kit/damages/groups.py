@@ -101,6 +101,16 @@ def list_killed(case):
     case.run("every")
 
 
+@damage("the blocks of two cylinder groups changed places")
+def groups_exchanged(case):
+    layout, image = case.volume.layout, case.volume.image
+    a, b = (slice(layout.group_place(c), layout.group_place(c) + layout.bsize) for c in (0, 3))
+    image[a], image[b] = image[b], image[a]
+    files_at_stake(case)
+    case.report("SUMMARY INFORMATION BAD", "BLK(S) MISSING IN BIT MAPS")
+    case.run("every")
+
+
 @damage("a byte of an inode map became zeros")
 def inode_map_byte(case):
     volume = case.volume

@@ -155,14 +155,17 @@ def directory_mode_unknown(case):
 
 
 def put_hole(case):
-    """Moves the last half of the words of the film's indirect block to its end: it has a hole, and more bytes than the volume."""
-    volume, image = case.volume, case.volume.image
-    i, at, bsize = volume.find("big/film"), indirect_place(case), volume.layout.bsize
+    """Moves the last half of the words of the film's indirect block on, so that it has a hole, and more bytes than the volume. Of a hole that
+    has itself more than the volume Sleuthkit reads nothing."""
+    volume, image, layout = case.volume, case.volume.image, case.volume.layout
+    i, at = volume.find("big/film"), indirect_place(case)
     count = len(volume.blocks(i)) - 12
+    moved = min(layout.bsize // 4 - count, layout.size // layout.frag - 60)
     begin, end = at + 4 * (count - count // 2), at + 4 * count
-    image[at + bsize - (end - begin):at + bsize] = image[begin:end]
+    words = image[begin:end]
     volume.zero(begin, end - begin)
-    volume.put_inode(i, size=volume.inode(i)["size"] + (bsize // 4 - count) * bsize)
+    image[begin + 4 * moved:end + 4 * moved] = words
+    volume.put_inode(i, size=volume.inode(i)["size"] + moved * layout.bsize)
     case.tree["big/film"] = volume.bytes_of(i)
     return i
 
@@ -968,15 +971,17 @@ def inodes_overwritten(case):
 
 @damage("two blocks of inodes were exchanged")
 def inode_blocks_exchanged(case):
-    volume, layout = case.volume, case.volume.layout
+    """One has a link, and all else in both are files."""
+    volume, layout, link = case.volume, case.volume.layout, "docs/pages/page_33"
     count = layout.bsize // 128
-    firsts = [volume.find(path) // count * count for path in ("mail/in/one", "docs/names/a_rather_long_name_of_a_file_050")]
+    volume.put(volume.entry(link) + 6, 1, 10)
+    put_type(case, link, 0o120644)
+    case.tree = volume.tree()
+    firsts = [volume.find(path) // count * count for path in (link, "docs/names/a_rather_long_name_of_a_file_000")]
     a, b = (layout.inode_place(first) for first in firsts)
     volume.image[a:a + layout.bsize], volume.image[b:b + layout.bsize] = volume.image[b:b + layout.bsize], volume.image[a:a + layout.bsize]
     case.at_stake(*case.tree)
-    numbers = sorted({message["inode"] // count * count for message in case.report("BAD TYPE VALUE").of("BAD TYPE VALUE")})
-    if len(numbers) != 2:
-        raise Wrong(f"inodes of blocks from {numbers} on have a wrong type")
+    numbers = [message["inode"] // count * count for message in case.report("BAD TYPE VALUE").of("BAD TYPE VALUE")]
     case.run("further")
     for k in range(count):
         case.run("exchange", i=numbers[0] + k, j=numbers[1] + k)

@@ -1,7 +1,8 @@
 """Damaged entries: numbers, types, lengths, and entries that are gone."""
 import os
+import re
 
-from ..case import Wrong, entries_of, fragments_of, number_of
+from ..case import NotHere, Wrong, entries_of, fragments_of, number_of
 from ..sources import SHORT_LINKS
 from .all import damage
 
@@ -236,6 +237,39 @@ def names_control(case):
         raise Wrong(f"page_1^ is in the list of names as {numbers}")
     for i in numbers:
         case.run("bytes", i=i)
+
+
+def shown(path):
+    """A path as Sleuthkit writes it."""
+    return re.sub("[\0-\37\177]", "^", path)
+
+
+@damage("odd names")
+def odd(case):
+    if "odd" not in case.tree:
+        raise NotHere
+    case.tree = {shown(path): it for path, it in case.tree.items()}
+    case.at_stake(*case.tree)
+    case.report()
+    case.run("names all attributes")
+    for i, path in re.findall(r"^./[dr] (\d+):\t(.*)", case.run("names"), re.M):
+        if "^" not in path and "'" not in path and case.run("number-of", path=path).strip() != i:
+            raise Wrong(f"the inode of {path} isn't found")
+
+
+@damage("the inode of a directory with odd names became zeros")
+def odd_lost(case):
+    if "odd" not in case.tree:
+        raise NotHere
+    volume = case.volume
+    volume.zero(volume.layout.inode_place(volume.find("odd")), 128)
+    case.at_stake(*case.tree)
+    i = case.report("UNALLOCATED", "UNREF").first("UNALLOCATED")["inode"]
+    case.run("unnamed lost-names")
+    found = case.run("further directories check")
+    case.run("keep")
+    if case.run("further place links check", i=i, links=found.first("LINK COUNT")["right_count"]).status or case.trees[-1] != case.tree:
+        raise Wrong("it isn't as it was")
 
 
 @damage("a file has the name of another one")

@@ -1,6 +1,7 @@
 """Damaged superblocks, images that were cut, and images of another kind."""
 import os
 import re
+import tempfile
 
 from images import formats
 
@@ -62,6 +63,19 @@ def size(case):
     all_at_stake(case)
     case.report("BAD SUPER BLOCK")
     mend_from(case, case.run("copies").split()[0])
+
+
+@damage("the superblock became that of a volume with blocks of another size")
+def of_other(case):
+    with tempfile.TemporaryDirectory() as place:
+        other = sources.Kind(case.kind.order, case.kind.size, "version=1,bsize=16384,fsize=2048", sources.make_long_directory).make(place)
+    case.volume.image[formats.SUPERBLOCK_AT:formats.SUPERBLOCK_AT + 8192] = other[formats.SUPERBLOCK_AT:formats.SUPERBLOCK_AT + 8192]
+    all_at_stake(case)
+    case.report("BAD SUPER BLOCK")
+    sector = next(line.split()[0] for line in case.run("copies").splitlines() if " primary" not in line)
+    if len(case.check_again(words=("-b", "16"))) <= len(case.check_again(words=("-b", sector))):
+        raise Wrong("the report of the first copy isn't the shorter one")
+    mend_from(case, sector)
 
 
 @damage("the last copy of the superblock is damaged")
