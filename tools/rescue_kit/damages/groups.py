@@ -67,6 +67,15 @@ def attributes_full(case):
     case.run("names all")
 
 
+@damage("the disk is full when small files are copied")
+def files_full(case):
+    files_at_stake(case)
+    case.report()
+    if "the disk is full" not in case.complaints("all", first='mktemp() { ln -s /dev/full saved.d/full && echo saved.d/full; }\n'):
+        raise Wrong("nothing says that the disk is full")
+    case.run("all")
+
+
 @damage("a cylinder group's block and a file's inode became zeros")
 def group_and_inode_zeroed(case):
     volume, path = case.volume, "docs/report"
