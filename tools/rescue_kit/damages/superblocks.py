@@ -6,7 +6,7 @@ import tempfile
 from images import formats
 
 from .. import sources
-from ..case import NotHere, Wrong, tree_of
+from ..case import TOOLS, NotHere, Wrong, tree_of
 from .all import damage
 
 SECTOR = 512
@@ -90,11 +90,26 @@ def last_copy_lost(case):
     mend_last(case)
 
 
+@damage("the last copy of the superblock became zeros, and a file has an image of another volume in it")
+def last_copy_and_image(case):
+    volume, fsize = case.volume, case.volume.layout.fsize
+    with open(f"{os.path.dirname(TOOLS)}/examples/clean.img", "rb") as it:
+        inner = it.read()[8192:8192 + 1376]
+    at = volume.blocks(volume.find("big/film"))[3] * fsize
+    volume.image[at:at + len(inner)] = inner
+    case.tree = volume.tree()
+    volume.zero(volume.layout.copy_place(volume.layout.ncg - 1), 3 * SECTOR)
+    lines = mend_last(case)
+    if not any(line[4] == "other" for line in lines) or any(line[4] == "other" and line[3] == lines[0][3] for line in lines):
+        raise Wrong("the image in the file isn't called other, or has the size of the volume")
+
+
 def mend_last(case):
     """Writes the last copy anew where two checks by -b agree, also over a further damage, which is mended without -b."""
     case.volume.put_inode(case.volume.find("docs/letter"), mode=0)
     all_at_stake(case)
     case.report("BAD SUPER BLOCK")
+    lines = [line.split() for line in case.run("copies").splitlines()]
     case.refuses("lost")
     case.refuses("further place mode", i=4, mode=100644)
     reports = [case.check_again("PARTIALLY ALLOCATED INODE", words=("-b", sector)) for sector in ("16", "32")]
@@ -104,6 +119,7 @@ def mend_last(case):
     i = case.run("further last-copy check").first("PARTIALLY ALLOCATED INODE")["inode"]
     case.run("keep")
     case.run("further place mode check", i=i, mode="100644")
+    return lines
 
 
 @damage("the superblock and all of its copies became zeros")
