@@ -52,7 +52,7 @@ complain() {
 sizes() {
     # shellcheck disable=SC2046
     set -- $(ffs_find copies copy.img | tr / ' ' | awk '$2 == "little" || $2 == "big" { print; exit }')
-    [ $# -gt 3 ] || { complain "rescue.sh: no superblock is found in copy.img, so order, bsize and fsize aren't set"; return 1; }
+    [ $# -gt 3 ] || { complain "rescue.sh: no superblock of copy.img is accepted, so order, bsize and fsize aren't set"; return 1; }
     # shellcheck disable=SC2034
     order=$2 bsize=$3 fsize=$4 from=copy.img
 }
@@ -306,6 +306,10 @@ recovered() (
 $left
 EOF
     done
+    # Of a small file that a full disk doesn't take tsk_recover says nothing
+    [ ! -d "$2" ] || { probe=$(mktemp "$2/full.XXXXXX") && head -c 65536 /dev/zero >"$probe"; } 2>/dev/null ||
+        complain "recover: the disk is full, so files in $2 may be empty or cut short" || status=1
+    rm -f "${probe-}"
     exit $status
 )
 

@@ -41,7 +41,7 @@ class Case:
 
     def __init__(self, volume, kind, page, program):
         self.volume, self.kind, self.page, self.program = volume, kind, page, program
-        self.place = tempfile.mkdtemp()
+        self.place = tempfile.mkdtemp(prefix="a disk of ")
         self.tree = volume.tree()
         self.stakes = {}
         self.texts = [""]

@@ -89,6 +89,17 @@ def make_long_paths(top):
         os.makedirs(f"{path}/last")
 
 
+def make_odd_names(top):
+    """Names of 255 bytes, with control bytes, or that a shell or a list could take for something else; directories too."""
+    for number, name in enumerate((b"with spaces in it", b" leading", b"trailing ", b"new\nline", b"tab\there", b"esc\x1b[31m", b"-rf", b"a -> b", b"* star",
+                                   b"co:lon", b"pi|pe", b"x (deleted)", b"'\"`$(x)\\", b"n" * 255, b"\xc3\xa9" * 127, b"latin\xe4", b"..x", b"lost+found")):
+        for folder in (b"odd", b"odd/in " + name[:240]):
+            path = b"/".join((os.fsencode(top), folder, name))
+            os.makedirs(os.path.dirname(path), exist_ok=True)
+            with open(path, "wb") as it:
+                it.write(name + b"%d" % number * 20)
+
+
 @dataclass
 class Kind:
     """A kind of volume: its byte order, the size and words that makefs takes, how its tree is made, and a word of the damages that it has."""
@@ -120,5 +131,7 @@ KINDS = [
     Kind("be", "8m", "version=1,bsize=4096,fsize=512,density=2048", make_long_directory, "twelve blocks"),
     Kind("le", "4m", "version=1,bsize=4096,fsize=512,density=4096", make_deep, "levels"),
     Kind("be", "4m", "version=1,bsize=4096,fsize=512,density=4096", make_long_paths, "longer than 4,096"),
+    Kind("le", "4m", SMALL, make_odd_names, "odd names"),
+    Kind("be", "4m", SMALL, make_odd_names, "odd names"),
     Kind("le", "48m", "version=1,bsize=65536,fsize=16384,density=16384", make_directories, "fragments of 16,384"),
 ]

@@ -104,6 +104,26 @@ def size_odd_left(case):
     case.run("all")
 
 
+@damage("a directory's size became larger, by a hole")
+def size_hole(case):
+    volume = case.volume
+    names_at_stake(case)
+    volume.put_inode(volume.find("docs/names"), size=volume.layout.bsize * 11 + 512)
+    path = case.report("DIRECTORY: CONTAINS EMPTY BLOCKS").first("DIRECTORY: CONTAINS EMPTY BLOCKS")["path"]
+    mend_size(case, case.run("number-of", path=path).strip())
+
+
+@damage("a directory's size became larger, within its last block")
+def size_chunk(case):
+    names_at_stake(case)
+    i = case.volume.find("docs/names")
+    case.volume.put_inode(i, size=case.volume.inode(i)["size"] + 512)
+    report = case.report()
+    if not report.of("DIRECTORY CORRUPTED"):
+        raise NotHere
+    mend_size(case, report.first("DIRECTORY CORRUPTED")["inode"])
+
+
 @damage("a directory's address became 0")
 def hole(case):
     put_names(case, direct1=0)
@@ -579,6 +599,27 @@ def root_and_group_zeroed(case):
     case.run("unnamed", **{"from": "every.img"})
 
 
+@damage("five damages at once: the last copy of the superblock, a group's block, inode 2, an entry and an indirect block")
+def five(case):
+    volume, layout = case.volume, case.volume.layout
+    numbers = files_of(case)
+    volume.put(volume.entry("mail/report_too"), 4, 99999)
+    volume.zero(volume.inode(volume.find("big/film"))["single"] * layout.fsize, layout.bsize)
+    volume.put_inode(2, mode=0)
+    volume.zero(layout.group_place(0), layout.bsize)
+    volume.zero(layout.copy_place(layout.ncg - 1), 1536)
+    case.at_stake(*numbers)
+    case.report("BAD SUPER BLOCK")
+    case.run("further last-copy keep")
+    case.check_again("ROOT INODE UNALLOCATED", "PARTIALLY ALLOCATED INODE")
+    case.run("further place mode keep", i=2, mode="40755")
+    found = case.check_again("I OUT OF RANGE", "LINK COUNT", "INCORRECT BLOCK COUNT", "CG: BAD MAGIC NUMBER")
+    case.run("further number keep", e=place_of(case, found.first("I OUT OF RANGE")["path"]), i=found.first("LINK COUNT")["inode"])
+    b = fragments_of(case.run("inode", i=found.first("INCORRECT BLOCK COUNT")["inode"]))[12]
+    case.run("further list refill keep", b=b)
+    case.run("every")
+
+
 @damage("a directory's inode was overwritten by that of a file")
 def inode_of_file(case):
     volume, layout = case.volume, case.volume.layout
@@ -652,6 +693,22 @@ def root_address(case):
     case.report("UNKNOWN FILE TYPE", "ROOT INODE NOT DIRECTORY")
     k = max(fragments_of(case.run("inode", i=2)))
     mend(case, 2, "address", k=k, f=0)
+
+
+@damage("the size of inode 2 became 0")
+def root_size(case):
+    case.volume.put_inode(2, size=0)
+    case.at_stake(*case.tree)
+    case.report("UNKNOWN FILE TYPE", "ROOT INODE NOT DIRECTORY")
+    mend_size(case, 2)
+
+
+@damage("inode 2 became a link")
+def root_link(case):
+    case.volume.put_inode(2, mode=0o120755)
+    case.at_stake(*case.tree)
+    case.report("ROOT INODE NOT DIRECTORY")
+    mend(case, 2, "mode", mode="40755")
 
 
 @damage("the root's address points outside of the volume")

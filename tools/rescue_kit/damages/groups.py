@@ -67,6 +67,15 @@ def attributes_full(case):
     case.run("names all")
 
 
+@damage("the disk is full when small files are copied")
+def files_full(case):
+    files_at_stake(case)
+    case.report()
+    if "the disk is full" not in case.complaints("all", first='mktemp() { ln -s /dev/full saved.d/full && echo saved.d/full; }\n'):
+        raise Wrong("nothing says that the disk is full")
+    case.run("all")
+
+
 @damage("a cylinder group's block and a file's inode became zeros")
 def group_and_inode_zeroed(case):
     volume, path = case.volume, "docs/report"
@@ -98,6 +107,16 @@ def list_killed(case):
     for recipe in ("names", "all"):
         if "isn't whole" not in case.complaints(recipe, first='fls() { command fls "$@" | head -c 60; return 1; }\n'):
             raise Wrong(f"the recipe {recipe} doesn't say that a list isn't whole")
+    case.run("every")
+
+
+@damage("the blocks of two cylinder groups changed places")
+def groups_exchanged(case):
+    layout, image = case.volume.layout, case.volume.image
+    a, b = (slice(layout.group_place(c), layout.group_place(c) + layout.bsize) for c in (0, 3))
+    image[a], image[b] = image[b], image[a]
+    files_at_stake(case)
+    case.report("SUMMARY INFORMATION BAD", "BLK(S) MISSING IN BIT MAPS")
     case.run("every")
 
 

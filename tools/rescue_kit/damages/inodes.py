@@ -154,6 +154,41 @@ def directory_mode_unknown(case):
     mend(case, i, "mode", mode="40755")
 
 
+def put_hole(case):
+    """Moves the last half of the words of the film's indirect block on, so that it has a hole, and more bytes than the volume. Of a hole that
+    has itself more than the volume Sleuthkit reads nothing."""
+    volume, image, layout = case.volume, case.volume.image, case.volume.layout
+    i, at = volume.find("big/film"), indirect_place(case)
+    count = len(volume.blocks(i)) - 12
+    moved = min(layout.bsize // 4 - count, layout.size // layout.frag - 60)
+    begin, end = at + 4 * (count - count // 2), at + 4 * count
+    words = image[begin:end]
+    volume.zero(begin, end - begin)
+    image[begin + 4 * moved:end + 4 * moved] = words
+    volume.put_inode(i, size=volume.inode(i)["size"] + moved * layout.bsize)
+    case.tree["big/film"] = volume.bytes_of(i)
+    return i
+
+
+@damage("a sound file with a hole is larger than the volume")
+def hole_within(case):
+    i = put_hole(case)
+    case.at_stake("big/film")
+    if case.report() or f"inode {i}: its size is {len(case.tree['big/film'])}, and it is passed over" not in case.complaints("all"):
+        raise Wrong("it isn't sound, or it isn't passed over")
+    case.run("names all bytes", i=i)
+
+
+@damage("the size of a file with a hole became smaller")
+def hole_size(case):
+    case.volume.put_inode(put_hole(case), size=800000)
+    case.at_stake("big/film")
+    i = case.report("PARTIALLY TRUNCATED INODE", "INCORRECT BLOCK COUNT").first("PARTIALLY TRUNCATED INODE")["inode"]
+    last = max(k for k, word in enumerate(words_of(case, i, 12)) if word)
+    if mend(case, i, "size", size=(12 + last + 1) * case.volume.layout.bsize).status:
+        raise Wrong("it isn't consistent")
+
+
 @damage("a bit of a file's size was set, beyond what a file can have")
 def size_too_large(case):
     i = case.volume.find("docs/report")
@@ -601,6 +636,37 @@ def large_overwritten(case):
     case.run("further list refill check", b=f)
 
 
+TEXT = b"All work and no play makes Jack a dull boy. " * 200
+
+
+@damage("an indirect block that the double indirect block of a large file names was overwritten by text")
+def second_overwritten(case):
+    _, double = double_of(case)
+    overwrite(case, case.volume.number(double * case.volume.layout.fsize, 4))
+    i = case.report("BAD", "PARTIALLY TRUNCATED INODE").first("BAD")["inode"]
+    b = words_of(case, i, 13)[0]
+    case.run("words", b=b)
+    case.run("further zeros keep", b=b)
+    case.run("further list refill check", b=b)
+
+
+@damage("a large file's double indirect block was overwritten by text")
+def double_overwritten(case):
+    overwrite(case, double_of(case)[1])
+    i = case.report("BAD", "PARTIALLY TRUNCATED INODE").first("BAD")["inode"]
+    b = fragments_of(case.run("inode", i=i))[13]
+    case.run("further zeros keep", b=b)
+    case.check_again("INCORRECT BLOCK COUNT")
+    rising = case.run("rising").split()
+    case.run("further word check", b=b, k=0, f=rising[0])
+
+
+def overwrite(case, f):
+    """Writes text over a block."""
+    at, length = f * case.volume.layout.fsize, case.volume.layout.bsize
+    case.volume.image[at:at + length] = TEXT[:length]
+
+
 @damage("a file's indirect block was overwritten by that of a large file")
 def indirect_of_other(case):
     volume, layout = case.volume, case.volume.layout
@@ -784,6 +850,28 @@ def link_size_claims(case):
     mend(case, i, "size", size=len(text.encode()))
 
 
+@damage("a long link's size became small: its address is taken for its text")
+def long_link_size(case):
+    case.volume.put_inode(case.volume.find("mail/longer"), size=20)
+    case.at_stake("mail/longer")
+    i = case.report("INCORRECT BLOCK COUNT").first("INCORRECT BLOCK COUNT")["inode"]
+    mend(case, i, "size", size=right_most(case, i))
+    case.run("keep bytes", i=i)
+    if mend(case, i, "size", size=len(case.bytes_of(f"saved.{i}").rstrip(b"\0"))).status or "mail/longer" not in case.trees[-1]:
+        raise Wrong("it isn't consistent")
+    if case.trees[-1]["mail/longer"] != case.tree["mail/longer"]:
+        raise Wrong("the link isn't as it was")
+
+
+@damage("a short link became a file: its text is taken for addresses")
+def link_as_file(case):
+    put_type(case, "mail/short", 0o100777)
+    case.at_stake("mail/short")
+    i = case.report("UNKNOWN FILE TYPE").first("UNKNOWN FILE TYPE")["inode"]
+    if next(entry.type for entry in entries_in(case, "mail") if entry.number == i) != 10 or mend(case, i, "mode", mode="120777").status:
+        raise Wrong("its entry's type isn't that of a link, or it isn't consistent")
+
+
 def put_type(case, path, mode):
     case.volume.put_inode(case.volume.find(path), mode=mode)
 
@@ -879,6 +967,26 @@ def inodes_overwritten(case):
     case.report("UNKNOWN FILE TYPE")
     case.run("names")
     case.run("rest")
+
+
+@damage("two blocks of inodes were exchanged")
+def inode_blocks_exchanged(case):
+    """One has a link, and all else in both are files."""
+    volume, layout, link = case.volume, case.volume.layout, "docs/pages/page_33"
+    count = layout.bsize // 128
+    volume.put(volume.entry(link) + 6, 1, 10)
+    put_type(case, link, 0o120644)
+    case.tree = volume.tree()
+    firsts = [volume.find(path) // count * count for path in (link, "docs/names/a_rather_long_name_of_a_file_000")]
+    a, b = (layout.inode_place(first) for first in firsts)
+    volume.image[a:a + layout.bsize], volume.image[b:b + layout.bsize] = volume.image[b:b + layout.bsize], volume.image[a:a + layout.bsize]
+    case.at_stake(*case.tree)
+    numbers = [message["inode"] // count * count for message in case.report("BAD TYPE VALUE").of("BAD TYPE VALUE")]
+    case.run("further")
+    for k in range(count):
+        case.run("exchange", i=numbers[0] + k, j=numbers[1] + k)
+    if case.run("check").status or case.trees[-1] != case.tree:
+        raise Wrong("it isn't as it was")
 
 
 @damage("a file's bytes are in a bad area of the disk")

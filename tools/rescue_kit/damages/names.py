@@ -1,7 +1,8 @@
 """Damaged entries: numbers, types, lengths, and entries that are gone."""
 import os
+import re
 
-from ..case import Wrong, entries_of, fragments_of, number_of
+from ..case import NotHere, Wrong, entries_of, fragments_of, number_of
 from ..sources import SHORT_LINKS
 from .all import damage
 
@@ -124,6 +125,68 @@ def number_zero(case):
             case.run("further number check", e=entry.byte, i=i)
 
 
+def mend_link(case, i, *paths):
+    """Puts the number of a file that has further names at one of these paths, one at a time. One of the copies must be consistent."""
+    found = [mend_number(case, path, i).status for path in paths]
+    if 0 not in found:
+        raise Wrong(f"the checks end with {found}")
+
+
+@damage("the number of one of a file's two names is none of the volume's")
+def link_number_out_of_range(case):
+    set_number(case, "mail/report_too", 99999)
+    case.at_stake("docs/report", "mail/report_too")
+    report = case.report("I OUT OF RANGE", "LINK COUNT")
+    mend_link(case, report.first("LINK COUNT")["inode"], report.first("I OUT OF RANGE")["path"])
+
+
+@damage("the number of one of a file's two names became that of a free inode")
+def link_number_unallocated(case):
+    set_number(case, "mail/report_too", 900)
+    case.at_stake("docs/report", "mail/report_too")
+    report = case.report("UNALLOCATED", "LINK COUNT")
+    mend_link(case, report.first("LINK COUNT")["inode"], report.first("UNALLOCATED")["path"])
+
+
+@damage("the number of one of a file's two names became that of another file")
+def link_number_of_other(case):
+    set_number(case, "mail/report_too", case.volume.find("docs/letter"))
+    case.at_stake("docs/report", "mail/report_too", "docs/letter")
+    counts = {message["count"] - message["right_count"]: message["inode"] for message in case.report("LINK COUNT").of("LINK COUNT")}
+    mend_link(case, counts[1], *case.run("names-of", i=counts[-1]).split())
+
+
+@damage("the number of one of a file's two names became that of a directory")
+def link_number_of_directory(case):
+    set_number(case, "mail/report_too", case.volume.find("docs/pages"))
+    case.at_stake("docs/report", "mail/report_too")
+    report = case.report("BAD TYPE VALUE", "LINK COUNT")
+    i = next(message["inode"] for message in report.of("LINK COUNT") if message["count"] > message["right_count"])
+    mend_link(case, i, report.first("BAD TYPE VALUE")["path"])
+
+
+@damage("the number of one of a file's two names became 0")
+def link_number_zero(case):
+    set_number(case, "mail/report_too", 0)
+    case.at_stake("docs/report", "mail/report_too")
+    i = case.report("LINK COUNT").first("LINK COUNT")["inode"]
+    mend_link(case, i, *[line.partition("\t")[2] for line in case.run("deleted").splitlines()])
+
+
+@damage("the record length of an entry covers one of a file's two names")
+def link_covered(case):
+    case.in_one_order()
+    found = list(case.volume.entries(case.volume.find("mail")))
+    k = next(k for k, entry in enumerate(found) if entry[4] == "report_too")
+    case.volume.put(found[k - 1][0] + 4, 2, found[k - 1][2] + found[k][2])
+    case.at_stake("docs/report", "mail/report_too")
+    i = case.report("LINK COUNT").first("LINK COUNT")["inode"]
+    named = {path.rpartition("/")[2] for path in case.run("names-of", i=i).split()}
+    covered = next(entry.byte for entry in entries_of(case.run("find-name", i=i)) if entry.name not in named)
+    before = [entry for entry in entries_in(case, "mail") if entry.byte < covered][-1]
+    case.run("further length check", e=before.byte, length=covered - before.byte)
+
+
 @damage("an entry's type is wrong")
 def type_wrong(case):
     case.volume.put(case.volume.entry("docs/letter") + 6, 1, 4)
@@ -174,6 +237,39 @@ def names_control(case):
         raise Wrong(f"page_1^ is in the list of names as {numbers}")
     for i in numbers:
         case.run("bytes", i=i)
+
+
+def shown(path):
+    """A path as Sleuthkit writes it."""
+    return re.sub("[\0-\37\177]", "^", path)
+
+
+@damage("odd names")
+def odd(case):
+    if "odd" not in case.tree:
+        raise NotHere
+    case.tree = {shown(path): it for path, it in case.tree.items()}
+    case.at_stake(*case.tree)
+    case.report()
+    case.run("names all attributes")
+    for i, path in re.findall(r"^./[dr] (\d+):\t(.*)", case.run("names"), re.M):
+        if "^" not in path and "'" not in path and case.run("number-of", path=path).strip() != i:
+            raise Wrong(f"the inode of {path} isn't found")
+
+
+@damage("the inode of a directory with odd names became zeros")
+def odd_lost(case):
+    if "odd" not in case.tree:
+        raise NotHere
+    volume = case.volume
+    volume.zero(volume.layout.inode_place(volume.find("odd")), 128)
+    case.at_stake(*case.tree)
+    i = case.report("UNALLOCATED", "UNREF").first("UNALLOCATED")["inode"]
+    case.run("unnamed lost-names")
+    found = case.run("further directories check")
+    case.run("keep")
+    if case.run("further place links check", i=i, links=found.first("LINK COUNT")["right_count"]).status or case.trees[-1] != case.tree:
+        raise Wrong("it isn't as it was")
 
 
 @damage("a file has the name of another one")
@@ -276,7 +372,7 @@ def mend_lengths(case, i):
         right = min(end, after.byte if after and after.byte > this.byte else end) - this.byte
         if this.length != right:
             case.run("length", e=this.byte, length=right)
-    case.run("check")
+    return case.run("check")
 
 
 @damage("an entry's length of name passes its record")
@@ -310,6 +406,51 @@ def name_slash(case):
     mend_slashes(case, case.report("DIRECTORY CORRUPTED", "UNREF"))
 
 
+@damage("a byte of an entry's name became 0")
+def name_nul(case):
+    case.volume.image[case.volume.entry("docs/names/a_rather_long_name_of_a_file_050") + 8 + 15] = 0
+    at_stake_in_names(case)
+    del case.stakes["docs/names/a_rather_long_name_of_a_file_050"]
+    report = case.report("DIRECTORY CORRUPTED", "UNREF")
+    case.run("further name-byte check", e=place_not_shown(case, report), k=15, byte=ord("_"))
+
+
+@damage("an entry's type became one that there isn't")
+def type_unknown(case):
+    case.volume.put(case.volume.entry("docs/names/a_rather_long_name_of_a_file_050") + 6, 1, 200)
+    at_stake_in_names(case)
+    report = case.report("DIRECTORY CORRUPTED", "UNREF")
+    case.run("further type check", e=place_not_shown(case, report), type=8)
+
+
+def place_not_shown(case, report):
+    """The byte of an entry that the recipe `entries` doesn't show: where one ends and the next doesn't begin."""
+    entries = entries_of_inode(case, report.first("DIRECTORY CORRUPTED")["inode"])
+    return next(this.byte + this.length for this, after in zip(entries, entries[1:])
+                if this.byte // 512 == after.byte // 512 and this.byte + this.length != after.byte)
+
+
+@damage("a byte of the second entry of a directory, `..`, became another one")
+def dotdot_named(case):
+    place = [entry[0] for entry in case.volume.entries(case.volume.find("mail/in"))][1]
+    case.volume.image[place + 8] = ord("x")
+    case.at_stake("mail/in", "mail/in/one", "mail/in/two")
+    report = case.report("MISSING '..', CANNOT FIX", "IS AN EXTRANEOUS HARD LINK TO DIRECTORY")
+    e = entries_of_inode(case, report.first("MISSING '..', CANNOT FIX")["inode"])[1].byte
+    if case.run("further name-byte check", e=e, k=0, byte=ord(".")).status:
+        raise Wrong("it isn't consistent")
+
+
+@damage("the record length of `.` covers `..`")
+def dot_covers(case):
+    place = [entry[0] for entry in case.volume.entries(case.volume.find("mail/in"))][0]
+    case.volume.put(place + 4, 2, 24)
+    case.at_stake("mail/in", "mail/in/one", "mail/in/two")
+    i = case.report("MISSING '..', CANNOT FIX").first("MISSING '..', CANNOT FIX")["inode"]
+    if mend_lengths(case, i).status:
+        raise Wrong("it isn't consistent")
+
+
 @damage("an entry's name leads to the copy that was kept")
 def name_leads_away(case):
     away = b"../../../kept.img"
@@ -334,7 +475,7 @@ def mend_slashes(case, report):
     for entry in entries_of_inode(case, report.first("DIRECTORY CORRUPTED")["inode"]):
         for k, byte in enumerate(entry.name):
             if byte == "/":
-                case.run("name-byte", e=entry.byte, k=k)
+                case.run("name-byte", e=entry.byte, k=k, byte=ord("_"))
     case.run("check")
 
 

@@ -1,11 +1,12 @@
 """Damaged superblocks, images that were cut, and images of another kind."""
 import os
 import re
+import tempfile
 
 from images import formats
 
 from .. import sources
-from ..case import NotHere, Wrong, tree_of
+from ..case import TOOLS, NotHere, Wrong, tree_of
 from .all import damage
 
 SECTOR = 512
@@ -64,6 +65,19 @@ def size(case):
     mend_from(case, case.run("copies").split()[0])
 
 
+@damage("the superblock became that of a volume with blocks of another size")
+def of_other(case):
+    with tempfile.TemporaryDirectory() as place:
+        other = sources.Kind(case.kind.order, case.kind.size, "version=1,bsize=16384,fsize=2048", sources.make_long_directory).make(place)
+    case.volume.image[formats.SUPERBLOCK_AT:formats.SUPERBLOCK_AT + 8192] = other[formats.SUPERBLOCK_AT:formats.SUPERBLOCK_AT + 8192]
+    all_at_stake(case)
+    case.report("BAD SUPER BLOCK")
+    sector = next(line.split()[0] for line in case.run("copies").splitlines() if " primary" not in line)
+    if len(case.check_again(words=("-b", "16"))) <= len(case.check_again(words=("-b", sector))):
+        raise Wrong("the report of the first copy isn't the shorter one")
+    mend_from(case, sector)
+
+
 @damage("the last copy of the superblock is damaged")
 def last_copy(case):
     case.volume.put_superblock("cgoffset", 8, copy=case.volume.layout.ncg - 1)
@@ -76,11 +90,26 @@ def last_copy_lost(case):
     mend_last(case)
 
 
+@damage("the last copy of the superblock became zeros, and a file has an image of another volume in it")
+def last_copy_and_image(case):
+    volume, fsize = case.volume, case.volume.layout.fsize
+    with open(f"{os.path.dirname(TOOLS)}/examples/clean.img", "rb") as it:
+        inner = it.read()[8192:8192 + 1376]
+    at = volume.blocks(volume.find("big/film"))[3] * fsize
+    volume.image[at:at + len(inner)] = inner
+    case.tree = volume.tree()
+    volume.zero(volume.layout.copy_place(volume.layout.ncg - 1), 3 * SECTOR)
+    lines = mend_last(case)
+    if not any(line[4] == "other" for line in lines) or any(line[4] == "other" and line[3] == lines[0][3] for line in lines):
+        raise Wrong("the image in the file isn't called other, or has the size of the volume")
+
+
 def mend_last(case):
     """Writes the last copy anew where two checks by -b agree, also over a further damage, which is mended without -b."""
     case.volume.put_inode(case.volume.find("docs/letter"), mode=0)
     all_at_stake(case)
     case.report("BAD SUPER BLOCK")
+    lines = [line.split() for line in case.run("copies").splitlines()]
     case.refuses("lost")
     case.refuses("further place mode", i=4, mode=100644)
     reports = [case.check_again("PARTIALLY ALLOCATED INODE", words=("-b", sector)) for sector in ("16", "32")]
@@ -90,6 +119,7 @@ def mend_last(case):
     i = case.run("further last-copy check").first("PARTIALLY ALLOCATED INODE")["inode"]
     case.run("keep")
     case.run("further place mode check", i=i, mode="100644")
+    return lines
 
 
 @damage("the superblock and all of its copies became zeros")
@@ -335,6 +365,25 @@ def partition(case):
 def partition_lost(case):
     case.volume.zero(formats.SUPERBLOCK_AT, 8192)
     cut_out(case, lambda first, second: first - 32)
+
+
+@damage("the image is the second partition of a whole disk, right after another one")
+def second_partition(case):
+    case.in_one_order()
+    right = bytes(case.volume.image)
+    all_at_stake(case)
+    case.volume.image[:] = bytes(START * SECTOR) + right + right
+    case.report("BAD SUPER BLOCK")
+    lines = [line.split() for line in case.run("copies").splitlines()]
+    sectors = int(lines[0][3]) * int(lines[0][2].split("/")[1]) // SECTOR
+    first, second = [int(line[0]) for line in lines if int(line[0]) >= int(lines[0][0]) - 16 + sectors][:2]
+    if second - first != 16:
+        raise Wrong(f"the second partition's first copies are at {first} and {second}")
+    case.run("partition", start=first - 16, sectors=sectors)
+    if case.bytes_of("part.img") != right:
+        raise Wrong("what was cut out isn't the second partition")
+    os.rename(f"{case.place}/part.img", f"{case.place}/copy.img")
+    case.run("further check")
 
 
 START = 2048
