@@ -84,7 +84,7 @@ pub clears_failed : {T : Type 0} {a b : ClaimMoment} {fault : _} (o : Offer) →
     (of_lines (first_offer_lines (bits_of a.workspace.duplicates) (o ∷ []))) →
     b.workspace.duplicates ≡ a.workspace.duplicates → ClearsAsSaid {T = T} 0 a b (Err (Out fault))
 clears_failed {a = a} o stopped same =
-    clears_stopped _ (grind (arith, cases_Bool, inl, inr)) stopped same
+    clears_stopped _ (grind (arith, cases_Bool)) stopped same
 
 -- a read failed after what was said
 pub clears_read : {T : Type 0} {h : ℕ} {a b : ClaimMoment} {fault : _} → ClearsAsSaid {T = Unit {0}} h a b (Ok tt) →

@@ -43,7 +43,7 @@ or_true true = refl
 or_true false = refl
 
 pub stay_reserved : (v : Layout) (bits : List Bool) → length bits ≡ v.size → StaySet bits (with_reserved v bits)
-stay_reserved v bits long = record { flags = grind (arith, cases_lt, inl, get_with, false, or_true, inr, true, get_or_past) }
+stay_reserved v bits long = record { flags = grind (arith, cases_lt, get_with, or_true, get_or_past) }
 
 -- ---- frames
 pub found_none : (w : Workspace) → SameFound w w

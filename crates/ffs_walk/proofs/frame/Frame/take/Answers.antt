@@ -5,4 +5,4 @@ use Rattle.ffs_walk.proofs.frame.Frame.take.Goals as goal
 use Rattle.ffs_walk.proofs.frame.Frame.take.Goals.{then-self+else-any_from, else-self}
 
 pub returns-clause-item : goal.returns-clause-item
-returns-clause-item g c = grind (arith, false, rules, less_left, next_word)
+returns-clause-item g c = grind (arith, rules, less_left, next_word)
