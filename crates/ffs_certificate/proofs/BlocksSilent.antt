@@ -1,6 +1,6 @@
 -- Phases 1 and 1b report nothing exactly where every fragment has one owner at most.
 use Rattle.std.proofs.Common.{inl, inr, ◌≡◌, ℕ, ◌+◌, ◌<◌, ◌≤◌, Bool, true, false, cond, arith, refl, sym, ap, ◌∙◌, List}
-use Rattle.std.proofs.{Common.{[], ◌∷◌, length, nat_lt, ◌==◌, not, slice_set, ◌++◌, ◌↔◌, ◌&&◌}, lemmas.Bool.and_parts}
+use Rattle.std.proofs.{Common.{[], ◌∷◌, length, nat_lt, ◌==◌, slice_set, ◌++◌, ◌↔◌, ◌&&◌}, lemmas.Bool.and_parts}
 use Rattle.std.proofs.lemmas.{Bool.{ltb-true, cases_lt, Decides.nat_tests}, List.{get_or-set_same, get_or-set_other}}
 use Rattle.std.proofs.lemmas.List.{length-set, get_or_past, FromFn.get_or-map-range_with_len}
 use Rattle.std.proofs.lemmas.List.{FromFn.length-map-range_with_len, Sums.sum_by-cons, Folds.list_all-append}

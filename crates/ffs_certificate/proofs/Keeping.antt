@@ -170,9 +170,6 @@ record Tie (v : Layout) (i b : ℕ) (s : Claims) (e : List OfferVerdict) : Type 
   ready : is_open s ≡ (nat_lt b 11 && nat_lt (dups_of e i) 11)
   same : is_open s ≡ true → (s.bad ≡ b) × (s.dup_offers ≡ dups_of e i)
 
-closed_test : (i b : ℕ) (e : List OfferVerdict) → Closed i b e → (nat_lt b 11 && nat_lt (dups_of e i) 11) ≡ false
-closed_test i b e h = grind arith
-
 shut_closed : (i b b' : ℕ) (e : List OfferVerdict) → (nat_lt b 11 && nat_lt (dups_of e i) 11) ≡ false → b ≤ b' →
     Closed i b' e
 shut_closed i b b' e q le = grind arith
@@ -181,7 +178,7 @@ shut_closed i b b' e q le = grind arith
 closed_tied : (v : Layout) (i b : ℕ) (s : Claims) (e : List OfferVerdict) (fs : List ℕ) → is_open s ≡ false →
     Closed i b e → Held v i s.used s.kept e →
     Tie v i b s (verdicts v e (map (counted_offer i b) fs)) × ([] ≡ kept_by_rule v e (map (counted_offer i b) fs))
-closed_tied v i b s e fs shut c h = let done = skip_offers v i b s e fs c h in grind (arith, closed_test)
+closed_tied v i b s e fs shut c h = let done = skip_offers v i b s e fs c h in grind arith
 
 open_tied : (v : Layout) (i b : ℕ) (s : Claims) (e : List OfferVerdict) (fs : List ℕ) → b ≤ 10 → s.bad ≡ b →
     OfferTie v i s e →
@@ -254,16 +251,12 @@ verdicts_before v n i b e [] lt h = h
 verdicts_before v n i b e (f ∷ fs) lt h =
     let more = verdicts_before v n i b (offer_verdict v e (counted_offer i b f) ∷ e) fs lt in grind (arith, nat_tests)
 
-step_before : (v : Layout) (n i b : ℕ) (e : List OfferVerdict) (step : Step) → i < n → are_before n e ≡ true →
-    are_before n (verdicts v e (step_offers v i b step)) ≡ true
-step_before v n i b e step h k = grind (arith, verdicts_before)
-
 steps_before : (v : Layout) (n i b : ℕ) (e : List OfferVerdict) (steps : List Step) → i < n → are_before n e ≡ true →
     are_before n (verdicts v e (offers_of_steps v i b steps)) ≡ true
 steps_before v n i b e [] lt h = h
 steps_before v n i b e (step ∷ steps) lt h =
     let more = steps_before v n i (bad_runs_after v b step) (verdicts v e (step_offers v i b step)) steps lt in
-    grind (arith, verdicts-append, step_before)
+    grind (arith, verdicts-append, verdicts_before)
 
 -- the numbers of inodes rise
 abbrev Rising : ℕ → List Owner → Type 0
@@ -283,18 +276,14 @@ owners_tied v n s e (o ∷ os) a h r =
     os in
     grind (arith, verdicts-append, kept_append, steps_before, before_more)
 
-start_agrees : (v : Layout) → Agrees v (no_claims v) []
-unfolding no_claims is_fragment_in_range
-start_agrees v = grind (arith, reserved_bit, reserved_length)
-
 rising_range : (v : Layout) (image : List ℕ) (n k : ℕ) → Rising n (map (owner_of v image) (range_with_len n k))
 unfolding owner_of
 rising_range v image n zero = tt
 rising_range v image n (suc k) = (omega arith, rising_range v image (n + 1) k)
 
 pub keeps_by_rule : (v : Layout) (image : List ℕ) → KeepsByRule v (owners_of v image)
-unfolding owners_of
+unfolding owners_of no_claims is_fragment_in_range
 keeps_by_rule v image =
-    let all = owners_tied v 2 (no_claims v) [] (owners_of v image) (start_agrees v) refl
+    let all = owners_tied v 2 (no_claims v) [] (owners_of v image) (grind (arith, reserved_bit, reserved_length)) refl
     (rising_range v image 2 (v.ncg * v.ipg - 2)) in
     record { offers = all.1; used = all.0.used }

@@ -1,5 +1,5 @@
 -- Which directories are reached, and that lines UNREF DIR and EXTRANEOUS HARD LINK say so.
-use Rattle.std.proofs.Common.{arith, ◌≡◌, ◌≢◌, ℕ, Bool, true, false, ◌||◌, ◌↔◌, Some, sym, ◌∙◌, inl, inr, zero, suc}
+use Rattle.std.proofs.Common.{arith, ◌≡◌, ◌≢◌, ℕ, Bool, true, false, ◌↔◌, Some, sym, ◌∙◌, inl, inr, zero, suc}
 use Rattle.std.proofs.{Common.{List, [], ◌∷◌}, lemmas.Bool.{both_ways, cases_Bool, and_parts, and_from, or_cases}}
 use Rattle.std.{proofs.lemmas.Bool.{or_right, false_from_ne_true, ne_eqb, eqb-true}, specs.List.list_any}
 use Rattle.ffs_volume.specs.{Disk.Search.some_below, Directories.Graph.{Graph, edge, reached, parent, level}}
@@ -31,11 +31,6 @@ lost-reported v suspect d sane h =
           (w.0, and_from (is_lost_in v suspect w.0) _ w.1 (or_right (none_or_dead v suspect (parent v w.0)) _ w.2))
     ]
 
--- a directory that is not reached is dead or lost
-pub dead_or_lost : (v : Graph) (suspect : ℕ → Bool) (d : ℕ) → IsSane v → v.is_dir d ≡ true → reached v d ≡ false →
-    (is_dead_in v suspect d || is_lost_in v suspect d) ≡ true
-dead_or_lost v suspect d sane h u = grind (arith, reached-root)
-
 -- the law: with nothing dead, phase 3 is silent exactly where each directory is reached
 pub silent-reached : (v : Graph) (suspect : ℕ → Bool) → IsSane v → NoneDead v suspect →
     NoUnrefDir v suspect ↔ AllReached v
@@ -43,7 +38,7 @@ silent-reached v suspect sane quiet = (
   (λ none d h. elim (cases_Bool (reached v d)) [
     | inl y ↦ y
     | inr y ↦ absurd (elim (or_cases (is_dead_in v suspect d) (is_lost_in v suspect d)
-        (dead_or_lost v suspect d sane h y)) [
+        (grind (arith, reached-root))) [
           | inl a ↦ both_ways (is_dead_in v suspect d) (quiet d) a
           | inr b ↦ let w = lost-reported v suspect d sane b in both_ways (is_unref_dir_in v suspect w.0) (none w.0) w.1
         ])

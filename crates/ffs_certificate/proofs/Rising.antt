@@ -43,9 +43,6 @@ record Within (nb low high : ℕ) (steps : List Step) : Type 0 where
   rises : Rises low high (blocks_in steps)
   below : list_all (λ b. nat_lt b nb) (blocks_in steps) ≡ true
 
-within_join : (nb a b c : ℕ) (xs ys : List Step) → Within nb a b xs → Within nb b c ys → Within nb a c (xs ++ ys)
-within_join nb a b c xs ys x y = grind (arith, blocks_append, rise_join, list_all-append)
-
 -- spans
 span_some : (words level : ℕ) → 0 < words → 0 < span_of words level
 span_some words zero some = omega arith
@@ -69,7 +66,7 @@ under_within nb span first f next (suc count) h =
     let rest = under_within nb span first f (next + 1) count (λ j low high. h j (omega arith) (omega arith)) in
     let step : first + next * span + span ≡ first + (next + 1) * span = omega arith in
     let end : next + suc count ≡ next + 1 + count = omega arith in
-    rw end (within_join nb _ (first + (next + 1) * span) _ (f next) _ (rw step at here) rest)
+    rw end (grind (arith, blocks_append, rise_join, list_all-append))
 
 -- a level of indirection
 at_within : (t : FileBlocks) (bytes : List ℕ) (level address first : ℕ) → first < t.blocks →

@@ -1,29 +1,25 @@
 -- What is known of an image's volume, and that all is kept where the block check is silent.
 use Rattle.std.proofs.Common.{zero, suc, ◌≡◌, ℕ, ◌+◌, ◌-◌, ◌*◌, ◌<◌, ◌≤◌, true, false, arith, refl, sym, ap, ◌∙◌, List}
-use Rattle.std.proofs.{Common.{[], ◌∷◌, map, ◌≢◌, Bool}, lemmas.{Bool.and_parts, List.Folds.list_all-map}}
+use Rattle.std.proofs.{Common.{[], ◌∷◌, map, Bool}, lemmas.{Bool.and_parts, List.Folds.list_all-map}}
 use Rattle.std.{proofs.lemmas.List.FromFn.length-range_with_len, specs.List.range_with_len}
-use Rattle.ffs_volume.specs.declared.{Class.TheVariants.Unknown, Step.Step, Layout.Layout, Inode.Inode}
+use Rattle.ffs_volume.specs.declared.{Step.Step, Layout.Layout}
 use Rattle.ffs_volume.specs.Blocks.Claims.{Claims, no_claims, reserved_map, at_next_inode, after_step, after_owner}
-use Rattle.ffs_volume.specs.Blocks.{Claims.after_owners, BlockCheck.is_marked, KeptSteps.{is_kept_step, kept_steps}}
-use Rattle.ffs_volume.specs.Blocks.{KeptSteps.{claims_before, kept_steps_of}, Inodes.{inode_of, class_of, type_of}}
+use Rattle.ffs_volume.specs.Blocks.{Claims.after_owners, BlockCheck.is_marked, KeptSteps.{kept_steps}}
+use Rattle.ffs_volume.specs.Blocks.{KeptSteps.{claims_before, kept_steps_of}, Inodes.{inode_of, class_of}}
 use Rattle.ffs_volume.specs.{Blocks.{Owners.{owner_of, owners_of}, Steps.steps_of}, Directories.Volumes.is_inode_number}
 use Rattle.ffs_volume.specs.Directories.Volumes.{class_at, marked_at, steps_of_inode, kept_steps_of_inode, volume_with}
 use Rattle.ffs_volume.specs.Directories.{Volumes.{volume_of, whole_volume}, Roles.roled_entries}
 use Rattle.ffs_volume.specs.{Consistent.BlocksRight.{is_right_class, BlocksRight}, Laws.Geometry.IsAcceptedLayout}
 use Rattle.ffs_volume.proofs.Sizes.{no_steps}
-use Rattle.ffs_certificate.{specs.Premises.{IsVolume, IsUnmarked}, proofs.BlockLaws.{Calm, calm_open, step_quiet}}
+use Rattle.ffs_certificate.{specs.Premises.{IsVolume, IsUnmarked}, proofs.BlockLaws.{Calm, calm_open}}
 use Rattle.ffs_certificate.proofs.BlockLaws.{steps_quiet, step_claims, owner_quiet, owners_quiet, owner_claims}
 use Rattle.ffs_certificate.proofs.{BlockLaws.owners_from, BlocksSilent.{right_quiet, blocks_silent}, GroupLaws.all_at}
-
-step_kept_quiet : (v : Layout) (s : Claims) (step : Step) → Calm s → step_quiet v s.used step ≡ true →
-    is_kept_step v s step ≡ true
-step_kept_quiet v s step c e = let done = step_claims v s step c e in grind (arith, calm_open, length-range_with_len)
 
 steps_kept_quiet : (v : Layout) (s : Claims) (steps : List Step) → Calm s → steps_quiet v s.used steps ≡ true →
     kept_steps v s steps ≡ steps
 steps_kept_quiet v s [] c e = refl
 steps_kept_quiet v s (step ∷ steps) c e =
-    let rest = steps_kept_quiet v (after_step v s step) steps in grind (arith, step_claims, step_kept_quiet)
+    let rest = steps_kept_quiet v (after_step v s step) steps in grind (arith, step_claims, calm_open, length-range_with_len)
 
 kept_at : (v : Layout) (image : List ℕ) (s : Claims) (a k d x : ℕ) → a + d ≡ x → d < k →
     owners_quiet v s.used (map (owner_of v image) (range_with_len a k)) ≡ true →
@@ -55,17 +51,12 @@ none_marked v image r x low high =
     let whole = all_at (λ y. is_right_class (class_of v (inode_of v image y))) 2 (v.ncg * v.ipg - 2) x in
     grind (arith, list_all-map)
 
--- no type that has a class is 14
-kind_known : (v : Layout) (i : Inode) → class_of v i ≢ Unknown → type_of i.mode ≢ 14
-unfolding class_of
-kind_known v i known e = grind arith
-
 -- each volume of an image is one of those that the laws on directories speak of
 volume_is : (v : Layout) (image : List ℕ) (steps : ℕ → List Step) (marked : ℕ → Bool) → IsAcceptedLayout v →
     ((d : ℕ) → is_inode_number v d ≡ true → (inode_of v image d).size ≡ 0 → steps d ≡ []) →
     IsVolume (volume_with v image steps marked)
-unfolding volume_with roled_entries
-volume_is v image steps marked g none = grind (arith, kind_known)
+unfolding volume_with roled_entries class_of
+volume_is v image steps marked g none = grind arith
 
 steps_none : (v : Layout) (image : List ℕ) → IsAcceptedLayout v → (d : ℕ) → is_inode_number v d ≡ true →
     (inode_of v image d).size ≡ 0 → steps_of v (inode_of v image d) image ≡ []
@@ -75,16 +66,12 @@ pub whole_is_volume : (v : Layout) (image : List ℕ) → IsAcceptedLayout v →
 unfolding whole_volume
 whole_is_volume v image g = grind (arith, volume_is, steps_none)
 
--- where the blocks are right, each inode is free, a file or a directory
-number_bounds : (v : Layout) (x : ℕ) → is_inode_number v x ≡ true → (2 ≤ x) × (x < v.ncg * v.ipg)
-number_bounds v x h = grind arith
-
 whole_number : (v : Layout) (image : List ℕ) → BlocksRight v (owners_of v image) → (x : ℕ) → is_inode_number v x ≡ true
     → is_right_class (class_of v (inode_of v image x)) ≡ true
 unfolding owners_of owner_of
 whole_number v image r x h =
     let whole = all_at (λ y. is_right_class (class_of v (inode_of v image y))) 2 (v.ncg * v.ipg - 2) x in
-    grind (arith, number_bounds, list_all-map)
+    grind (arith, list_all-map)
 
 whole_class : (v : Layout) (image : List ℕ) → BlocksRight v (owners_of v image) → (x : ℕ) →
     is_right_class (class_at v image x) ≡ true

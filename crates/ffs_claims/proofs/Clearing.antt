@@ -31,13 +31,6 @@ line_for_each dup (o ∷ os) = elim (cases_Bool (is_set dup o.fragment)) [
   | inr clear ↦ rw clear (line_for_each dup os)
 ]
 
--- one offer has one line at most
-pub line_of_one : (dup : List Bool) (o : Offer) → length (of_lines (first_offer_lines dup (o ∷ []))) ≤ 1
-line_of_one dup o = elim (cases_Bool (is_set dup o.fragment)) [
-  | inl set ↦ rw set (omega arith)
-  | inr clear ↦ rw clear (omega arith)
-]
-
 -- nothing was said or cleared
 pub clears_none : {T : Type 0} {h : ℕ} {a b : ClaimMoment} {x : T} → b.workspace.duplicates ≡ a.workspace.duplicates →
     b.report ≡ a.report → ClearsAsSaid h a b (Ok x)
@@ -91,7 +84,7 @@ pub clears_failed : {T : Type 0} {a b : ClaimMoment} {fault : _} (o : Offer) →
     (of_lines (first_offer_lines (bits_of a.workspace.duplicates) (o ∷ []))) →
     b.workspace.duplicates ≡ a.workspace.duplicates → ClearsAsSaid {T = T} 0 a b (Err (Out fault))
 clears_failed {a = a} o stopped same =
-    clears_stopped _ (line_of_one (bits_of a.workspace.duplicates) o) stopped same
+    clears_stopped _ (grind (arith, cases_Bool)) stopped same
 
 -- a read failed after what was said
 pub clears_read : {T : Type 0} {h : ℕ} {a b : ClaimMoment} {fault : _} → ClearsAsSaid {T = Unit {0}} h a b (Ok tt) →
@@ -103,25 +96,6 @@ clears_read p = record {
   between = p.between;
   said = p.said;
   begun = p.begun.1;
-  cleared = p.cleared;
-}
-
--- a read failed before anything was said
-pub clears_unread : {T : Type 0} {h : ℕ} {a b : ClaimMoment} {fault : _} →
-    b.workspace.duplicates ≡ a.workspace.duplicates → b.report ≡ a.report →
-    ClearsAsSaid {T = T} h a b (Err (Read fault))
-clears_unread same silent = clears_read (clears_none same silent)
-
--- a call that took a read's fault for its end
-pub clears_ended : {T : Type 0} {h : ℕ} {a b : ClaimMoment} {x : T} {fault : _} →
-    ClearsAsSaid {T = T} h a b (Err (Read fault)) → ClearsAsSaid h a b (Ok x)
-clears_ended p = record {
-  messages = p.messages;
-  last = [];
-  few = omega arith;
-  between = p.between;
-  said = p.said;
-  begun = (refl, p.begun);
   cleared = p.cleared;
 }
 

@@ -1,6 +1,6 @@
 -- Each fragment with a DUP line has a kept offer, so that none is left to report once all were gone over.
-use Rattle.std.proofs.Common.{◌≡◌, inl, inr, ℕ, zero, suc, ◌+◌, ◌==◌, Bool, true, false, ◌||◌, if◌then◌else◌, List}
-use Rattle.std.proofs.Common.{[], ◌∷◌, ◌++◌, length, length-set, replicate, slice_set, nat_lt, arith, refl, ap, ◌∙◌}
+use Rattle.std.proofs.Common.{◌≡◌, inl, inr, ℕ, suc, ◌+◌, ◌==◌, Bool, true, false, ◌||◌, if◌then◌else◌, List}
+use Rattle.std.proofs.Common.{[], ◌∷◌, ◌++◌, length, length-set, slice_set, nat_lt, arith, refl, ap, ◌∙◌}
 use Rattle.std.proofs.{Math.ListN.get_or-eq_default, lemmas.Bool.{cases_Bool, cases_eq, cases_lt, Decides.nat_tests}}
 use Rattle.std.proofs.lemmas.List.{get_or-set_other, get_or-set_same, Folds.list_any-append}
 use Rattle.std.specs.List.{list_any, range_with_len}

@@ -1,13 +1,12 @@
 -- What reads, claims and reports leave of a workspace whose windows hold what the image gives.
 use Rattle.std.proofs.Common.{◌≡◌, ℕ, Bool, refl, ap, arith, length, length-set, slice_set, subst, false, Result}
-use Rattle.std.proofs.Common.{zero, suc, ◌+◌, ◌||◌, ◌∙◌, true, List, sym, inl, inr}
-use Rattle.std.proofs.lemmas.{Bool.{cases_eq, cases_lt, true≢false}, List.{get_or-set_other, get_or-set_same, get_or_past}}
+use Rattle.std.proofs.Common.{zero, suc, ◌+◌, ◌||◌, true, List, inl, inr}
+use Rattle.std.proofs.lemmas.{Bool.{cases_lt}, List.{get_or_past}}
 use Rattle.std.{proofs.Common.vec_len, specs.declared.{alloc.Global.Global, vec.Vec.Vec}}
 use Rattle.ffs_volume.specs.declared.{Class.Class, Inode.Inode, Layout.Layout}
 use Rattle.ffs_image.specs.Device.{Device}
 use Rattle.ffs_report.specs.{PhaseOutcome.ImageAfter, declared.fault.RunFault.RunFault}
 use Rattle.ffs_layout.specs.declared.geometry.Geometry.{Geometry}
-use Rattle.ffs_volume.specs.{Blocks.Claims.is_set, Disk.Areas.is_reserved}
 use Rattle.ffs_maps.specs.{Bits.{ClaimsRun, bits_of, set_run}, Reserved.with_reserved, declared.FragmentMap.FragmentMap}
 use Rattle.ffs_volume.proofs.Flags.{set_kept}
 use Rattle.ffs_maps.proofs.ReservedBits.{get_with}
@@ -43,15 +42,8 @@ pub or_true : (b : Bool) → (b || true) ≡ true
 or_true true = refl
 or_true false = refl
 
-reserved_set : (v : Layout) (bits : List Bool) → length bits ≡ v.size → (f : ℕ) → is_set bits f ≡ true →
-    is_set (with_reserved v bits) f ≡ true
-reserved_set v bits long f h = elim (cases_lt f v.size) [
-  | inl low ↦ get_with v bits f false low ∙ ap (λ b. is_reserved v f || b) h ∙ or_true (is_reserved v f)
-  | inr past ↦ absurd (true≢false (sym h ∙ get_or_past bits f false (omega arith)))
-]
-
 pub stay_reserved : (v : Layout) (bits : List Bool) → length bits ≡ v.size → StaySet bits (with_reserved v bits)
-stay_reserved v bits long = record { flags = reserved_set v bits long }
+stay_reserved v bits long = record { flags = grind (arith, cases_lt, get_with, or_true, get_or_past) }
 
 -- ---- frames
 pub found_none : (w : Workspace) → SameFound w w

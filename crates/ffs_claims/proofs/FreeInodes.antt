@@ -6,7 +6,7 @@ use Rattle.std.specs.List.{range_with_len, slice_range}
 use Rattle.ffs_image.specs.Device.{ForContents}
 use Rattle.ffs_volume.specs.Blocks.{Inodes.{any_nonzero, class_of, inode_from_bytes, inode_of, inodes_of}, Steps.address_in}
 use Rattle.ffs_volume.specs.Disk.Numbers.{number, u16_at, u32_at, u64_at}
-use Rattle.ffs_volume.specs.Blocks.{BlockCheck.{owner_lines, lines_of_owners}, Claims.{Claims, after_owner}}
+use Rattle.ffs_volume.specs.Blocks.{BlockCheck.{lines_of_owners}, Claims.{Claims, after_owner}}
 use Rattle.ffs_volume.specs.Blocks.{Claims.{after_steps, at_next_inode}, Owners.owner_of}
 use Rattle.ffs_volume.specs.declared.{Class.TheVariants.Free, Inode.Inode, Layout.Layout}
 use Rattle.ffs_volume.specs.declared.Order.{Order, TheVariants.{Little, Big}}
@@ -111,15 +111,11 @@ pub free_claims : (v : Layout) (bytes : List ℕ) (x : ℕ) (s : Claims) → cla
 unfolding owner_of
 free_claims v bytes x s free = ap (after_steps v (at_next_inode s)) (free_steps v _ bytes free)
 
-pub free_lines : (v : Layout) (bytes : List ℕ) (x : ℕ) (s : Claims) → class_of v (inode_of v bytes x) ≡ Free →
-    owner_lines v s (owner_of v bytes x) ≡ []
-unfolding owner_of
-free_lines v bytes x s free = rw (free, free_steps v _ bytes free) refl
-
 lines_one : (v : Layout) (bytes : List ℕ) (s : Claims) (n : ℕ) → n < inodes_of v → class_of v (inode_of v bytes n) ≡ Free →
     of_lines (lines_of_owners v s (owners_from v bytes n))
     ≡ of_lines (lines_of_owners v (at_next_inode s) (owners_from v bytes (n + 1)))
-lines_one v bytes s n low free = grind (arith, free_claims, free_lines)
+unfolding owner_of
+lines_one v bytes s n low free = grind (arith, free_claims, free_steps)
 
 -- ---- the inodes before a number are looked at
 abbrev pub begun_of : Workspace → Workspace

@@ -49,16 +49,11 @@ indirect_next : (v : Layout) (bytes : List ℕ) (s s' : Claims) (n : ℕ) → n 
     + indirect_in_owners v s' (owners_from v bytes (n + 1))
 indirect_next v bytes s s' n low now = grind arith
 
--- a free inode has none
-free_unseen : (v : Layout) (bytes : List ℕ) (x : ℕ) (s : Claims) → class_of v (inode_of v bytes x) ≡ Free →
-    indirect_in_steps v s (owner_of v bytes x).steps ≡ 0
-unfolding owner_of
-free_unseen v bytes x s free = ap (indirect_in_steps v s) (free_steps v _ bytes free)
-
 free_next : (v : Layout) (bytes : List ℕ) (s : Claims) (n : ℕ) → n < inodes_of v →
     class_of v (inode_of v bytes n) ≡ Free → indirect_in_owners v s (owners_from v bytes n)
     ≡ indirect_in_owners v (at_next_inode s) (owners_from v bytes (n + 1))
-free_next v bytes s n low free = grind (arith, free_claims, free_unseen)
+unfolding owner_of
+free_next v bytes s n low free = grind (arith, free_claims, free_steps)
 
 free_over : (v : Layout) (bytes : List ℕ) (s : Claims) (n k : ℕ) → n + suc k ≤ inodes_of v →
     AreFree v bytes n (n + suc k) → indirect_in_owners v s (owners_from v bytes n)

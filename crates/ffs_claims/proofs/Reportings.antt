@@ -5,7 +5,7 @@ use Rattle.std.{proofs.{Math.Bool.or-false, lemmas.List.Folds.list_any-append}, 
 use Rattle.ffs_volume.specs.Blocks.{BlockCheck.first_offer_lines, Claims.is_set, KeptOffers.{Offer, offer_of}}
 use Rattle.ffs_volume.specs.Blocks.BlockCheck.{set_count, after_first}
 use Rattle.ffs_maps.specs.Bits.{bits_of}
-use Rattle.ffs_workspace.specs.{Holds.bool_at, declared.workspace.Workspace.Workspace}
+use Rattle.ffs_workspace.specs.{declared.workspace.Workspace.Workspace}
 use Rattle.ffs_claims.proofs.{Duplicates.{none_clear, none_first}, StepsContinue.{range_next, lines_append}}
 use Rattle.ffs_claims.specs.{Lines.of_lines, Reporting.{OffersReported, ReportedInPart}}
 
@@ -28,9 +28,6 @@ after_append dup (o ∷ xs) ys = after_append (if is_set dup o.fragment then sli
 pub lines_split : (dup dup' : List Bool) (os xs ys : List Offer) → os ≡ xs ++ ys → dup' ≡ after_first dup xs →
     of_lines (first_offer_lines dup os) ≡ of_lines (first_offer_lines dup xs) ++ of_lines (first_offer_lines dup' ys)
 lines_split dup dup' os xs ys e d = grind (arith, first_append, lines_append)
-
-pub reported_none : (w : Workspace) → OffersReported [] w w
-reported_none w = record { duplicates = refl; marked = λ x. sym (or-false (bool_at w.marked.items x)) }
 
 -- nothing is left to report
 pub none_after : (bits : List Bool) (os : List Offer) → set_count bits ≡ 0 → after_first bits os ≡ bits
@@ -58,7 +55,7 @@ pub record Reporting (rest all : List Offer) (old new : Workspace) : Type 0 wher
 
 pub reporting_begins : {rest all : List Offer} (u w : Workspace) → rest ≡ all → w.duplicates ≡ u.duplicates →
     w.marked ≡ u.marked → Reporting rest all u w
-reporting_begins u w e d m = record { past = []; whole = e; reported = reported_to u u w (reported_none u) d m }
+reporting_begins u w e d m = record { past = []; whole = e; reported = reported_to u u w (grind (arith, or-false)) d m }
 
 pub reporting_more : {rest part rest' all : List Offer} {u v w : Workspace} → Reporting rest all u v →
     rest ≡ part ++ rest' → OffersReported part v w → Reporting rest' all u w

@@ -32,11 +32,6 @@ run_in_series v s start block some can =
       silent = λ number. rw (is_run, can.uncut, fits) (whole.silent number);
     }
 
--- no word
-pub series_none : {v : Layout} {blocks : Blocks} {w : Walk} (s : Claims) (start : ℕ) →
-    MeansSame v blocks s (with_series v.frag s start 0) w w
-series_none {v = v} s start = grind arith
-
 -- one word more
 pub series_next : {v : Layout} {blocks : Blocks} {x y z : Walk} (s : Claims) (start len : ℕ) → v.frag ≤ 8 →
     0 < v.frag → start ≢ 0 → y.geometry.layout ≡ v → next_address blocks y ≡ start + len →

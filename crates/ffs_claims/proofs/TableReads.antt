@@ -1,7 +1,7 @@
 -- How often phase 1 reads the inode tables: once for each block at most.
-use Rattle.std.proofs.Common.{◌≡◌, ℕ, suc, ◌+◌, ◌-◌, ◌*◌, ◌/◌, ◌%◌, ◌<◌, ◌≤◌, ◌⊎◌, inl, inr, ◌∙◌, ap, arith, OnOk}
+use Rattle.std.proofs.Common.{◌≡◌, ℕ, suc, ◌+◌, ◌-◌, ◌*◌, ◌/◌, ◌%◌, ◌<◌, ◌≤◌, ◌⊎◌, inl, inr, ◌∙◌, ap, arith}
 use Rattle.std.{proofs.lemmas.Grind.div_ceil_times, specs.Int.div_ceil}
-use Rattle.std.proofs.{Common.{Result, Ok, Err}, lemmas.{Bool.cases_lt, Nat.{div-mul-add, mod_below}}}
+use Rattle.std.proofs.{lemmas.{Bool.cases_lt, Nat.{div-mul-add, mod_below}}}
 use Rattle.std.proofs.Math.Nat.{div-add-mod', le-div_iff_mul-le, mul-le-mul_right, mul_assoc, mul_comm, mul-mod_right}
 use Rattle.ffs_volume.specs.{Laws.Geometry.IsAcceptedLayout, Report.Reads.table_blocks, declared.Layout.Layout}
 use Rattle.ffs_volume.specs.Blocks.Inodes.{inodes_of}
@@ -37,11 +37,6 @@ block_begins x ipg n some whole =
     let quotient : x / n ≡ x / ipg * (ipg / n) + x % ipg / n = ap (λ (k : ℕ). k / n) is
     ∙ div-mul-add (x / ipg * (ipg / n) + x % ipg / n) n (x % ipg % n) (mod_below (x % ipg) n some) in
     rw quotient (omega (arith, is))
-
--- no block is read yet
-pub blocks_none : {v : Layout} {x reads reads' runs : ℕ} {t : Table} → reads' ≤ reads + runs →
-    BlocksRead v x reads reads' runs t
-blocks_none few = record { blocks = 0; most = omega arith; passed = inl (omega arith) }
 
 -- inodes that are held, or some of them, are passed over
 pub blocks_later : {v : Layout} {x y reads reads' runs : ℕ} {t : Table} → x ≤ y → BlocksRead v x reads reads' runs t →
@@ -97,13 +92,9 @@ module _ {v : Layout} {x reads now now' runs runs' : ℕ} {t t' : Table} where
     ]
   ]
 
--- a table is whole blocks
-whole_tables : (ncg ipg n : ℕ) → ipg % n ≡ 0 → ncg * ipg % n ≡ 0
-whole_tables ncg ipg n whole = grind (arith, mul_comm, mul_assoc, mul-mod_right)
-
 -- blocks that begin in the tables
 few_blocks : {v : Layout} (k : ℕ) → IsAcceptedLayout v → k * v.inopb < inodes_of v + v.inopb → k ≤ table_blocks v
-few_blocks {v} k g below = grind (arith, whole_tables)
+few_blocks {v} k g below = grind (arith, mul_comm, mul_assoc, mul-mod_right)
 
 module _ {v : Layout} {x reads now runs : ℕ} {t : Table} where
   -- so many at most were read before the inode x

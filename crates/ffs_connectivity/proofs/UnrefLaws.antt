@@ -22,10 +22,6 @@ parent_by-dir v x s None z h = grind (arith, first_below-some)
 parent_by-dir v x s (Some zero) z h = absurd (cc)
 parent_by-dir v x s (Some (suc k)) z h = grind (arith, first_below-some)
 
-parent-some : (v : Graph) (x s : ℕ) → IsSane v → v.is_dir 0 ≡ false → parent v x ≡ Some s → IsParent v s
-unfolding parent
-parent-some v x s sane z h = grind (arith, parent_by-dir)
-
 -- a list holds the parent of d, 0 for none
 abbrev Holds : Graph → List ℕ → ℕ → Type 0
 Holds v p d = ((parent v d ≡ None) × (number_at p d ≡ 0))
@@ -33,7 +29,8 @@ Holds v p d = ((parent v d ≡ None) × (number_at p d ≡ 0))
 
 holds : (v : Graph) (p : List ℕ) (d : ℕ) → IsSane v → v.is_dir 0 ≡ false → number_at p d ≡ unwrap_or (parent v d) 0 →
     Holds v p d
-holds v p d sane z h = grind (arith, parent-some)
+unfolding parent
+holds v p d sane z h = grind (arith, parent_by-dir)
 
 up_is_parent : (v : Graph) (p : List ℕ) (x : ℕ) → length p ≡ v.count → Holds v p x → parent_in p x ≡ parent v x
 up_is_parent v p x l h = grind (arith, nat_tests)

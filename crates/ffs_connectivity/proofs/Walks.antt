@@ -251,16 +251,6 @@ pub record MarksLeaders (f : ℕ → Option ℕ) (n : ℕ) (walk_of : List ℕ) 
   pub known : (x : ℕ) → number_at walk_of x ≢ 0 → bool_at leader x ≡ is_leader_within f n x
   pub blank : (x : ℕ) → number_at walk_of x ≡ 0 → bool_at leader x ≡ false
 
-still_unmet : {f : ℕ → Option ℕ} {start mark : ℕ} {old new : List ℕ} (x : ℕ) → Walked f start mark old new →
-    number_at new x ≡ 0 → number_at old x ≡ 0
-still_unmet {old = old} x w z = grind arith
-
--- a walk that found no cycle
-pub marks_none : {f : ℕ → Option ℕ} {n start mark : ℕ} {old new : List ℕ} {leader : List Bool} →
-    Walked f start mark old new → ((x : ℕ) → IsMet old new x → IsOnCycle f x → ⊥) → MarksLeaders f n old leader →
-    MarksLeaders f n new leader
-marks_none {f = f} {n = n} {old = old} w none m = grind (arith, is_leader_within-true)
-
 -- a walk that found one
 pub marks_found : {f : ℕ → Option ℕ} {n start mark found e : ℕ} {old new : List ℕ} (leader : List Bool) →
     e < length leader → Walked f start mark old new → FindsCycle f n old new found → IsLeastOn f n found e →
@@ -283,6 +273,6 @@ marks_found {f = f} {n = n} {found = found} {e = e} {old = old} {new = new} lead
   ];
   blank = λ x z. elim (cases_eq x e) [
     | inl y ↦ absurd (closed-climb i.on.0 found w.closed g.fresh.is i.on.1 (sym (ap (number_at new) y) ∙ z))
-    | inr ne ↦ get_or-set_other leader e x true false ne ∙ m.blank x (still_unmet x w z)
+    | inr ne ↦ get_or-set_other leader e x true false ne ∙ m.blank x (grind arith)
   ];
 }

@@ -1,8 +1,6 @@
 -- How often the groups' blocks and summary records are read, group after group.
 use Rattle.std.{proofs.Common.{ℕ, ◌≡◌, ◌+◌, ◌%◌, ◌≤◌, arith}, specs.Int.div_ceil}
-use Rattle.ffs_volume.specs.{declared.Layout.Layout, Report.Reads.records_at_once}
-use Rattle.ffs_walk.specs.declared.window.Window.{Window}
-use Rattle.ffs_counts.specs.Records.{IsAtRecords}
+use Rattle.ffs_volume.specs.{Report.Reads.records_at_once}
 
 -- the reads for the first n groups
 abbrev pub reads_below : ℕ → ℕ
@@ -15,7 +13,3 @@ reads_next n reads before now so_far two one = grind arith
 -- those for the first n groups are among those for all
 pub reads_within : (n all : ℕ) → n ≤ all → reads_below n ≤ reads_below all
 reads_within n all few = grind arith
-
-pub records_next : (v : Layout) (w : Window) (n : ℕ) → IsAtRecords v w n → ((n + 1) % records_at_once ≡ 0 → ⊥) →
-    IsAtRecords v w (n + 1)
-records_next v w n at more = grind arith

@@ -1,7 +1,7 @@
 -- The lines of phase 5, group after group: of the messages that come once, only the first ones.
 use Rattle.std.proofs.Common.{◌≡◌, ℕ, suc, ◌+◌, ◌-◌, ◌<◌, ◌≤◌, ◌^◌, Bool, List, [], ◌∷◌, ◌++◌, map, refl, ap, ◌∙◌, sym}
 use Rattle.std.{proofs.Common.{subst, append_assoc, arith, ℤ, Result}, specs.List.range_with_len}
-use Rattle.std.{specs.List.{flat_map, sum_by}, proofs.lemmas.List.map-append}
+use Rattle.std.{specs.List.{flat_map}, proofs.lemmas.List.map-append}
 use Rattle.ffs_volume.specs.declared.{Layout.Layout, Class.Class, BlockMessage.{BlockMessage, TheVariants.FreeCounts}}
 use Rattle.ffs_volume.specs.{Blocks.Owners.owners_of, Directories.Volumes.class_at, Groups.GroupCheck.AlreadyReported}
 use Rattle.ffs_volume.specs.Groups.GroupCheck.{group_lines, is_free_of_kept, note_reported, phase5_lines, reported_once}
@@ -87,14 +87,10 @@ pub groups_end : (v : Layout) (totals : List ℤ) (w : Workspace) (image : List 
 groups_end v totals w image t c right low f = grind arith
 
 -- ---- the totals
-next_sum : (f : ℕ → ℕ) (n old new : ℕ) → old ≡ sum_by f (range_with_len 0 n) → new ≡ old + f n →
-    new ≡ sum_by f (range_with_len 0 (n + 1))
-next_sum f n old new e g = grind (arith, sum_more)
-
 pub totals_next : (v : Layout) (free : ℕ → Bool) (class : ℕ → Class) (n : ℕ) (old new : Totals) (s : SummaryCounts) →
     AreTotals v free class n old →
     new ≡ with_counts old s → group_counts_of s ≡ right_group_counts v free class n → AreTotals v free class (n + 1) new
-totals_next v free class n old new s a e right = grind (arith, next_sum)
+totals_next v free class n old new s a e right = grind (arith, sum_more)
 
 pub totals_right : (v : Layout) (free : ℕ → Bool) (class : ℕ → Class) (totals : List ℤ) (n : ℕ) (t : Totals) →
     AreTotals v free class n t → n ≡ v.ncg →

@@ -1,12 +1,12 @@
 -- What a workspace holds where only its windows have changed, and the lines of an inode by it.
-use Rattle.std.proofs.Common.{◌≡◌, ℕ, ℤ, zero, suc, ◌+◌, ◌-◌, ◌<◌, ◌≤◌, Bool, true, false, List, [], ◌||◌, not}
+use Rattle.std.proofs.Common.{◌≡◌, ℕ, ℤ, zero, suc, ◌+◌, ◌-◌, ◌<◌, ◌≤◌, Bool, true, false, List, [], ◌||◌}
 use Rattle.std.proofs.Common.{if◌then◌else◌, length, map, refl, ap, ◌∙◌, sym, slice_index, vec_len, drop, take, arith}
 use Rattle.std.{proofs.Common.{SFits}, specs.{List.slice_index_or, Int.w16, declared.{alloc.Global.Global, vec.Vec.Vec}}}
 use Rattle.std.proofs.lemmas.{Bool.Decides.nat_tests, List.{get_or-drop, get_or-take, length-drop, length-take-le}}
 use Rattle.std.proofs.lemmas.{List.get_or_read, Int.to_z_pos, Bool.{and_parts, cases_lt, eqb-true}}
 use Rattle.ffs_survey.specs.Survey.{suspect_at}
 use Rattle.ffs_volume.specs.declared.{Attr.Attr, Inode.Inode, Label.Label, Layout.Layout}
-use Rattle.ffs_volume.specs.declared.{constants.TheConstants.LINKS_MET, Class.TheVariants.{Free, Unknown, File, Dir}}
+use Rattle.ffs_volume.specs.declared.{constants.TheConstants.LINKS_MET}
 use Rattle.ffs_volume.specs.{Directories.Connectivity.is_dead, Encodings.Links.{links_start, start_at}}
 use Rattle.ffs_volume.specs.Blocks.Inodes.{inode_of, inode_from_bytes, is_allocated, inodes_of}
 use Rattle.ffs_volume.specs.Directories.PathnameCheck.{attributes, attributes_of, label_of}
@@ -29,14 +29,9 @@ pub item_at : {X : Type 0} (list : Vec X Global) (i n : ℕ) (x d : X) → x ≡
     vec_len list ≡ n → x ≡ slice_index_or list.items i d
 item_at list i n x d e low len = get_or_read list.items i x (omega (arith, list.ok.0)) e d
 
--- whether an inode is allocated, by the kind that a workspace holds
-kind_tests : (free unknown dir : Bool) →
-    is_allocated (if free then Free else (if unknown then Unknown else (if dir then Dir else File))) ≡ not free
-kind_tests free unknown dir = grind arith
-
 allocated_is : (v : Layout) (b : List ℕ) (w : Workspace) (i : ℕ) → HoldsBlockCheck v b w →
     is_allocated_inode (volume_of v b) i ≡ is_allocated (class_of_kind (slice_index w.kinds.items i))
-allocated_is v b w i h = grind (arith, some_is, kind_tests)
+allocated_is v b w i h = grind (arith, some_is)
 
 pub no_lines : (v : Layout) (b : List ℕ) (w : Workspace) (i : ℕ) → HoldsBlockCheck v b w →
     is_allocated (class_of_kind (slice_index w.kinds.items i)) ≡ false → reference_lines_at (volume_of v b) i ≡ []
@@ -97,11 +92,6 @@ skip_none lines (suc k) d n none =
 -- the lines of inodes from one on
 abbrev pub lines_after : Layout → ℕ → List ℕ → List Message
 lines_after v n bytes = map of_tree (lines_from (reference_lines_at (volume_of v bytes)) n (inodes_of v - n))
-
-pub same_reported : (dead m m' : Bool) (k k' : ℕ) (attr : Attr) (nlink : ℤ) (r r' : ℕ) → m ≡ m' → k ≡ k' → r ≡ r' →
-    reference_reported dead m' (label_of (class_of_kind k')) attr nlink r'
-    ≡ reference_reported dead m (label_of (class_of_kind k)) attr nlink r
-same_reported dead m m' k k' attr nlink r r' e f g = rw (e, f, g) refl
 
 pub lines_begin : (v : Layout) (b : List ℕ) → map of_tree (reference_lines (volume_of v b)) ≡ lines_after v 0 b
 unfolding reference_lines volume_of volume_with

@@ -3,7 +3,7 @@ use Rattle.std.proofs.Common.{◌≡◌, ℕ, zero, suc, ◌+◌, ◌<◌, Bool,
 use Rattle.std.{proofs.{Common.{refl, [], ◌∷◌}, lemmas.List.Sums.sum_by-cons}, specs.List.range_with_len}
 use Rattle.std.proofs.lemmas.{List.FromFn.get_or-map-range_with_len}
 use Rattle.ffs_volume.specs.{declared.{Layout.Layout, Step.Step}, Report.Whole.claimed_count, Blocks.Claims.is_set}
-use Rattle.ffs_volume.specs.Blocks.Claims.{Claims, no_claims, reserved_map, after_offer, after_offers, after_run}
+use Rattle.ffs_volume.specs.Blocks.Claims.{Claims, no_claims, reserved_map, after_offer, after_offers}
 use Rattle.ffs_volume.specs.Blocks.Claims.{after_step, after_steps, after_owner, after_owners, all_claims}
 use Rattle.ffs_volume.{specs.{Disk.Areas.is_reserved, Blocks.Owners.Owner}, proofs.Flags.set_kept}
 use Rattle.ffs_volume.proofs.Potentials.{cond_holds}
@@ -45,11 +45,8 @@ offers_keep : (v : Layout) (s : Claims) (gs : List ℕ) → Keeps s (after_offer
 offers_keep v s [] = λ f h. h
 offers_keep v s (g ∷ gs) = λ f h. offers_keep v (after_offer v s g) gs f (offer_keeps v s g f h)
 
-run_keeps : (v : Layout) (s : Claims) (start len : ℕ) → Keeps s (after_run v s start len)
-run_keeps v s start len = grind (arith, cond_holds, offers_keep)
-
 step_keeps : (v : Layout) (s : Claims) (step : Step) → Keeps s (after_step v s step)
-step_keeps v s step = grind (arith, cond_holds, run_keeps)
+step_keeps v s step = grind (arith, cond_holds, offers_keep)
 
 steps_keep : (v : Layout) (s : Claims) (steps : List Step) → Keeps s (after_steps v s steps)
 steps_keep v s [] = λ f h. h
@@ -59,14 +56,9 @@ owners_keep : (v : Layout) (s : Claims) (os : List Owner) → Keeps s (after_own
 owners_keep v s [] = λ f h. h
 owners_keep v s (o ∷ os) = λ f h. owners_keep v (after_owner v s o) os f (steps_keep v _ o.steps f h)
 
--- so where nothing else than the claims of some inodes was added, each reserved fragment is used
-has_reserved : (v : Layout) (os : List Owner) → HasReserved v (after_owners v (no_claims v) os).used
-unfolding no_claims reserved_map
-has_reserved v os f low reserved = grind (arith, owners_keep, get_or-map-range_with_len)
-
 -- how many fragments are claimed, by the map that a workspace holds
 pub used_are : (v : Layout) (image : List ℕ) (used : List Bool) (n : ℕ) →
     (HasReserved v used → n ≡ claimed_in v used) →
     used ≡ (all_claims v image).used → n ≡ claimed_count v image
-unfolding claimed_count all_claims
-used_are v image used n e same = grind (arith, has_reserved)
+unfolding claimed_count all_claims no_claims reserved_map
+used_are v image used n e same = grind (arith, owners_keep, get_or-map-range_with_len)

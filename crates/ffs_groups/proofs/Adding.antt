@@ -10,11 +10,8 @@ use Rattle.ffs_groups.specs.{declared.free.FreeCounts.FreeCounts, Free.{word_bit
 use Rattle.ffs_groups.{specs.Free.{AreBelow, Added, free_in}, proofs.Sums.{sum_more, sum_within, map_same}}
 use Rattle.ffs_groups.proofs.MapWords.{map_parts}
 
-stretch_len : (n : ℕ) → length (stretch_of n) ≤ min n 1
-stretch_len n = grind arith
-
 pub stretches_len : (n : ℕ) (bits : List Bool) → length (free_stretches n bits) ≤ min n 1 + length bits
-stretches_len n [] = omega (arith, stretch_len n)
+stretches_len n [] = grind arith
 stretches_len n (true ∷ bits) = omega (arith, stretches_len (n + 1) bits)
 stretches_len n (false ∷ bits) = grind (arith, stretches_len 0 bits)
 
@@ -57,15 +54,12 @@ from_zero : (f : ℕ → ℕ) (n m : ℕ) → sum_by f (range_with_len 0 (n + m)
     ≡ sum_by f (range_with_len 0 n) + sum_by f (range_with_len n m)
 from_zero f n m = let at : 0 + n ≡ n = omega arith in rw at at (sum_split f 0 n m (n + m) refl)
 
-one_from_zero : (f : ℕ → ℕ) (n : ℕ) → sum_by f (range_with_len 0 (n + 1)) ≡ sum_by f (range_with_len 0 n) + f n
-one_from_zero f n = let at : 0 + n ≡ n = omega arith in rw at at (sum_more f 0 n)
-
 -- one block more
 pub added_more : (bits : ℕ → List Bool) (n : ℕ) (old mid new : FreeCounts) → Added bits 0 n old mid →
     new.blocks ≡ mid.blocks + whole_in (bits n) → new.fragments ≡ mid.fragments + loose_in (bits n) →
     ((k : ℕ) → slice_index new.frsum k ≡ slice_index mid.frsum k + stretches_in k (bits n)) →
     Added bits 0 (n + 1) old new
-added_more bits n old mid new a blocks fragments frsum = grind (arith, one_from_zero)
+added_more bits n old mid new a blocks fragments frsum = grind (arith, sum_more)
 
 joined_sums : (f : List Bool → ℕ) (bits other : ℕ → List Bool) (n m : ℕ) → ((k : ℕ) → k < m → other k ≡ bits (n + k)) →
     sum_by (λ b. f (bits b)) (range_with_len 0 (n + m)) ≡ sum_by (λ b. f (bits b)) (range_with_len 0 n) + sum_by

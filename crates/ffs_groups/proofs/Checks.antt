@@ -1,36 +1,25 @@
 -- The numbers of a group block, by the bits of signed numbers.
-use Rattle.std.proofs.Common.{◌≡◌, ◌==◌, ℕ, ◌<◌, ◌^◌, List, drop, slice_index, subst, sym, ◌+◌, arith, ◌*◌, Bool, map}
+use Rattle.std.proofs.Common.{◌≡◌, ◌==◌, ℕ, ◌<◌, ◌^◌, List, slice_index, ◌+◌, arith, ◌*◌, Bool, map}
 use Rattle.std.{proofs.{Common.◌&&◌, lemmas.List.get_or-drop}, specs.List.range_with_len}
-use Rattle.ffs_volume.specs.{declared.{Order.Order, Layout.Layout, Class.Class}, Groups.Records.has_counts}
+use Rattle.ffs_volume.specs.{declared.{Order.Order, Layout.Layout, Class.Class}}
 use Rattle.ffs_volume.specs.{Groups.Records.{right_group_counts, group_size, has_right_sums}, Disk.Numbers.i32_at}
 use Rattle.ffs_volume.specs.Disk.Numbers.{u32_at, number, all_below}
 use Rattle.ffs_layout.specs.Group.{group_summary_at}
-use Rattle.ffs_groups.specs.declared.{counts.{SummaryCounts.SummaryCounts, Counts.Counts}, free.FreeCounts.FreeCounts}
-use Rattle.ffs_groups.specs.{declared.inodes.InodeCounts.InodeCounts, Check.{has_bits_of, AreCounts, group_counts_of}}
+use Rattle.ffs_groups.specs.declared.{counts.{Counts.Counts}, free.FreeCounts.FreeCounts}
+use Rattle.ffs_groups.specs.{declared.inodes.InodeCounts.InodeCounts, Check.{has_bits_of, AreCounts}}
 use Rattle.ffs_groups.specs.{Check.{same_counts, same_frsum_at}, Free.AreFreeCounts, Inodes.AreInodeCounts}
 use Rattle.ffs_groups.proofs.MapWords.{same_below}
-
--- a byte from a place on
-byte_from : (place : ℕ) (bytes : List ℕ) → ((k : ℕ) → slice_index bytes k < 256) → (i : ℕ) →
-    slice_index (drop place bytes) i < 256
-byte_from place bytes h i = subst (λ x. x < 256) (sym (get_or-drop place bytes i 0)) (h (place + i))
 
 -- four bytes
 in_word : (order : Order) (place : ℕ) (bytes : List ℕ) → ((k : ℕ) → slice_index bytes k < 256) →
     u32_at order place bytes < 2 ^ 32
 unfolding u32_at number
-in_word order place bytes h = grind (arith, byte_from)
+in_word order place bytes h = grind (arith, get_or-drop)
 
 pub bits_are : (order : Order) (place : ℕ) (bytes : List ℕ) (n : ℕ) → ((k : ℕ) → slice_index bytes k < 256) →
     has_bits_of (i32_at order place bytes) n ≡ (u32_at order place bytes == n)
 unfolding i32_at has_bits_of
 bits_are order place bytes n h = grind (arith, in_word)
-
--- the summary of an image is compared as the words in its bytes
-pub summary_as : (v : Layout) (place : ℕ) (bytes : List ℕ) (right : SummaryCounts) →
-    ((k : ℕ) → slice_index bytes k < 256) →
-    same_counts (group_summary_at v.order place bytes) right ≡ has_counts v place bytes (group_counts_of right)
-summary_as v place bytes right h = grind (arith, bits_are)
 
 stretch_as : (v : Layout) (block : List ℕ) (frsum : List ℕ) (k : ℕ) → ((k : ℕ) → slice_index block k < 256) → k < 8 →
     same_frsum_at (map (λ j. i32_at v.order (52 + 4 * j) block) (range_with_len 0 8)) frsum k ≡

@@ -132,11 +132,6 @@ pub few_blocks : (n fragments frag fpg : ℕ) → 0 < frag → n * frag < fragme
     fpg % frag ≡ 0 → n ≤ fpg / frag
 few_blocks n fragments frag fpg some h within whole = grind arith
 
-pub ends_before : (n b fragments frag fpg base next size : ℕ) → 0 < frag → fragments ≤ n * frag → n ≤ b →
-    b < fpg / frag → next ≡ base + fpg → fragments ≡ min next size - base →
-    size - base ≤ n * frag
-ends_before n b fragments frag fpg base next size some cover from_ below e g = grind arith
-
 -- what is free in the blocks that the volume has, is free in the group
 pub free_there : (v : Layout) (used : List Bool) (c n fragments : ℕ) (new : FreeCounts) → 0 < v.frag →
     v.fpg % v.frag ≡ 0 → n ≡ div_ceil fragments v.frag → fragments ≤ v.fpg →
@@ -152,7 +147,7 @@ free_there v used c n fragments new some whole is within size blocks frags frsum
     let few : n ≤ v.fpg / v.frag = few_blocks n fragments v.frag v.fpg some cover.1 within whole in
     let none : (b : ℕ) → n ≤ b → b < v.fpg / v.frag → Adds 0 (block_bits v (free_in used v.size) c b) =
     λ b l h. past_adds used (v.fpg * c) v.size v.frag n b some
-    (ends_before n b fragments v.frag v.fpg (v.fpg * c) (v.fpg * (c + 1)) v.size some cover.0 l h (omega arith) size)
+    (grind arith)
     l in
     record {
       blocks = blocks ∙ sum_ends (λ b. whole_in (block_bits v (free_in used v.size) c b)) n (v.fpg / v.frag) few

@@ -21,17 +21,11 @@ map_same f g a c (suc n) e =
     let rest = map_same f g (a + 1) (c + 1) n (λ k h. rw (one_on a k, one_on c k) (e (k + 1) (omega arith))) in
     grind (arith, e 0)
 
--- one number more is counted
-pub count_more : (p : ℕ → Bool) (a n count r : ℕ) (b : Bool) → count ≡ count_by p (range_with_len a n) →
-    r ≡ cond b 1 0 → b ≡ p (a + n) →
-    count + r ≡ count_by p (range_with_len a (n + 1))
-count_more p a n count r b e f g = grind (arith, sum_more)
-
 -- a count from a number on, and one number more
 pub one_counted : (p : ℕ → Bool) (first inode count r : ℕ) (b : Bool) → first ≤ inode →
     count ≡ count_by p (range_with_len first (inode - first)) → r ≡ cond b 1 0 → b ≡ p inode →
     count + r ≡ count_by p (range_with_len first (inode + 1 - first))
-one_counted p first inode count r b low counted is test = grind (arith, count_more)
+one_counted p first inode count r b low counted is test = grind (arith, sum_more)
 
 abbrev num : Bool → ℕ
 num b = cond b 1 0

@@ -1,15 +1,14 @@
 -- The bits of a map with the reserved fragments.
-use Rattle.std.proofs.Common.{◌≡◌, ℕ, ◌+◌, ◌-◌, ◌*◌, ◌<◌, ◌≤◌, Bool, false, List, length}
+use Rattle.std.proofs.Common.{◌≡◌, ℕ, ◌*◌, ◌<◌, ◌≤◌, Bool, false, List, length}
 use Rattle.std.proofs.Common.{◌&&◌, ◌||◌, nat_lt, count_by, get_or, replicate, arith, ap, ◌∙◌, sym}
 use Rattle.std.proofs.lemmas.{List.{same_lists, get_or_default}}
 use Rattle.std.proofs.lemmas.List.{get_or-replicate, FromFn.{get_or-map-range_with_len, length-map-range_with_len}}
 use Rattle.std.specs.{List.{range_with_len, slice_index_or}, Prelude.Some}
-use Rattle.ffs_volume.specs.{declared.Layout.Layout, Disk.Areas.{cgbase, is_reserved}}
+use Rattle.ffs_volume.specs.{declared.Layout.Layout, Disk.Areas.{is_reserved}}
 use Rattle.ffs_layout.specs.declared.geometry.Geometry.{Geometry}
-use Rattle.ffs_maps.specs.{Bits.set_run, Reserved.{IsReservedRun, with_reserved}, WordBits.{bits_of_words, set_among}}
+use Rattle.ffs_maps.specs.{Reserved.{with_reserved}, WordBits.{bits_of_words, set_among}}
 use Rattle.ffs_maps.specs.Words.{reserved_words}
 use Rattle.ffs_maps.proofs.{Bits.{bits_are, get_bits, is_bit, zero_bits}, Counting.sum_same, Words.reserved_bits_at}
-use Rattle.ffs_maps.proofs.Masks.{run_inside, run_outside}
 
 pub length_with : (v : Layout) (bits : List Bool) → length (with_reserved v bits) ≡ v.size
 unfolding with_reserved
@@ -23,12 +22,6 @@ get_with v bits f d low = grind (arith, get_or-map-range_with_len)
 -- ---- run after run
 abbrev so_far : Layout → List Bool → ℕ → ℕ → Bool
 so_far v bits end f = (nat_lt f end && is_reserved v f) || get_or bits f false
-
--- a group more
-pub group_set : (v : Layout) (old bits : List Bool) (c start end size f : ℕ) → IsReservedRun v c start end →
-    length bits ≡ size → end ≤ size → f < size → get_or bits f false ≡ so_far v old (cgbase v c) f →
-    get_or (set_run bits start (end - start)) f false ≡ so_far v old (cgbase v (c + 1)) f
-group_set v old bits c start end size f run long within low before_ = grind (arith, run_outside, run_inside)
 
 -- all of them
 pub all_set : (v : Layout) (old bits : List Bool) (end : ℕ) → v.size ≤ end → length bits ≡ v.size →

@@ -20,12 +20,6 @@ last_length_of a b = grind arith
 none_of : (a b k : Bool) → a ≡ false → b ≡ false → k ≡ false → ((a || b) || k) ≡ false
 none_of a b k e f g = rw (e, f, g) refl
 
--- in group 0, all up to the end of the summary area
-first_reserved : (v : Layout) (f : ℕ) → IsAcceptedLayout v → f < v.csaddr + div_ceil v.cssize v.fsize → is_reserved v f
-    ≡ true
-unfolding is_reserved
-first_reserved v f g h = grind (arith, cases_lt, any_of, lt-ltb, and_from, le-leb)
-
 metadata_in : (v : Layout) (c f : ℕ) → IsAcceptedLayout v → cgbase v c ≤ f → f < cgbase v (c + 1) →
     is_group_metadata v f ≡ (nat_lt c v.ncg && is_in_metadata_of v c f)
 metadata_in v c f g low high = grind (arith, is_metadata_of_group, group_is)
@@ -80,7 +74,8 @@ group_free v c f g some low high apart =
 -- ---- the run of a group
 pub first_run : (v : Layout) (c n : ℕ) → IsAcceptedLayout v → c < v.ncg → c ≡ 0 →
     n ≡ v.csaddr + div_ceil v.cssize v.fsize → IsReservedRun v c 0 n
-first_run v c n g h is_zero is = grind (arith, base_zero, first_reserved, first_free)
+unfolding is_reserved
+first_run v c n g h is_zero is = grind (arith, base_zero, first_free, cases_lt, any_of, lt-ltb, and_from, le-leb)
 
 pub other_run : (v : Layout) (c start end : ℕ) → IsAcceptedLayout v → c < v.ncg → (c ≡ 0 → ⊥) →
     start ≡ cgsblock v c → end ≡ cgdmin v c → IsReservedRun v c start end
@@ -140,20 +135,17 @@ pub groups_end : (v : Layout) → IsAcceptedLayout v → min (cgbase v v.ncg) v.
 unfolding cgbase
 groups_end v g = omega (arith, g.numbers.size_within, mul_comm v.ncg v.fpg)
 
-base_order : (v : Layout) (c : ℕ) → cgbase v c ≤ cgbase v (c + 1)
-unfolding cgbase
-base_order v c = omega (arith, mul-le v.fpg c v.fpg (c + 1) (omega arith) (omega arith))
-
 pub group_more : (v : Layout) (c x start end : ℕ) → IsAcceptedLayout v → c < v.ncg → IsReservedRun v c start end →
     x ≡ count_by (is_reserved v) (range_with_len 0 (min (cgbase v c) v.size)) →
     x + (end - start) ≡ count_by (is_reserved v) (range_with_len 0 (min (cgbase v (c + 1)) v.size))
+unfolding cgbase
 group_more v c x start end g h run counted =
     let at = base_within v c g h in
     let from_zero : cgbase v c - 0 ≡ cgbase v c = omega arith in
     let last = min (cgbase v (c + 1)) v.size in
     let all : last - 0 ≡ last = omega arith in
     count_join_at (is_reserved v) 0 (cgbase v c) last (last - cgbase v c) x (end - start) (omega arith)
-    (omega (arith, at, base_order v c))
+    (grind (arith, at, mul-le))
     (counted ∙ ap (λ j. count_by (is_reserved v) (range_with_len 0 j)) (at ∙ sym from_zero))
     (reserved_in_group v c start end last run (omega arith) (omega (arith, run.within_group, run.within_size)))
     ∙ ap (λ j. count_by (is_reserved v) (range_with_len 0 j)) all

@@ -1,5 +1,5 @@
 -- How many bits of some words are set, of those that are touched and of the others.
-use Rattle.std.proofs.Common.{◌≡◌, ℕ, ◌+◌, ◌-◌, ◌*◌, ◌/◌, ◌%◌, ◌<◌, ◌≤◌, Bool, false, true, List, length, cond, nat_eq}
+use Rattle.std.proofs.Common.{◌≡◌, ℕ, ◌+◌, ◌-◌, ◌*◌, ◌/◌, ◌%◌, ◌<◌, ◌≤◌, false, List, length, cond, nat_eq}
 use Rattle.std.proofs.Common.{count_by, get_or, take, drop, min, arith, refl, ap, ◌∙◌, sym}
 use Rattle.std.proofs.lemmas.List.{get_or-drop, get_or-take, length-drop, length-take-le}
 use Rattle.std.specs.{List.{range_with_len, slice_index_or}, Int.bit_at, Prelude.{Option, vec_len}}
@@ -8,18 +8,13 @@ use Rattle.ffs_layout.specs.declared.geometry.Geometry.{Geometry}
 use Rattle.ffs_maps.specs.{Words.{Words, reserved_bit}, WordBits.{bits_of_words, set_among}}
 use Rattle.ffs_maps.proofs.{Bits.{get_bits, is_bit}, Counting.{count_join_at, sum_same}, Words.{reserved_bits_at, seen, touched_at, untouched_at}}
 
--- the bit of a fragment in a word that isn't touched
-pub reserved_at : (touched : Vec ℕ Global) (reserved : Option Geometry) (count f : ℕ) (w : Words) →
-    seen touched reserved count ≡ w → vec_len touched ≤ f / 64 → f / 64 < count → is_bit w.list f ≡ reserved_bit reserved f
-reserved_at touched reserved count f w is past inside = grind (arith, untouched_at, reserved_bits_at)
-
 -- words from one on that aren't touched
 pub reserved_in_words : (touched : Vec ℕ Global) (reserved : Option Geometry) (count size first last : ℕ) (w : Words) →
     seen touched reserved count ≡ w → min (vec_len touched) last ≤ first → last ≤ count → 64 * last ≤ size →
     set_among (bits_of_words w.list size) (64 * first) (64 * last - 64 * first)
     ≡ count_by (reserved_bit reserved) (range_with_len (64 * first) (64 * last - 64 * first))
 reserved_in_words touched reserved count size first last w is past within below =
-    grind (arith, sum_same, get_bits, reserved_at)
+    grind (arith, sum_same, get_bits, untouched_at, reserved_bits_at)
 
 -- words that are touched
 pub touched_count : (touched : Vec ℕ Global) (reserved : Option Geometry) (count size first end : ℕ) (w : Words)

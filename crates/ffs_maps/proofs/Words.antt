@@ -3,13 +3,13 @@ use Rattle.std.proofs.Common.{◌≡◌, ◌∙◌, ℕ, zero, suc, ◌+◌, ◌
 use Rattle.std.proofs.Common.{replicate, slice_set, vec_len, map, get_or, cond, append_assoc, add-zero, true≢false}
 use Rattle.std.{proofs.lemmas.List.{get_or-append_right, get_or_default, same_lists, get_or-replicate, length-append, length-replicate, set-append_left}, specs.Prelude.{is_some, vec_capacity, Option, None, Some}}
 use Rattle.std.specs.{Ptr.Ptr, List.range_with_len, Vec.{vec_ptr, with_item}, declared.{vec.Vec.Vec, alloc.Global.Global}}
-use Rattle.std.proofs.lemmas.{Simd.bit_mask_l, Nat.Bits.{same_from_bits, bit_at-zero}, List.FromFn.{length-map-range_with_len, get_or-map-range_with_len, map-range_with_len_more}}
+use Rattle.std.proofs.lemmas.{Simd.bit_mask_l, Nat.Bits.{same_from_bits, bit_at-zero}, List.FromFn.{length-map-range_with_len, get_or-map-range_with_len}}
 use Rattle.std.proofs.lemmas.{List.get_or_past, Bool.cases_lt}
 use Rattle.std.{proofs.Math.ListN.get_or-append, specs.Int.bit_at}
 use Rattle.ffs_volume.specs.Disk.Areas.{is_reserved}
 use Rattle.ffs_layout.specs.declared.geometry.Geometry.{Geometry}
 use Rattle.ffs_maps.specs.declared.map_words.Stored.{Stored}
-use Rattle.ffs_maps.specs.Words.{Words, reserved_bit, reserved_bits, reserved_words, HasWordsFor, IsWordFor, LaysReserved, TouchesStored, TouchesWords}
+use Rattle.ffs_maps.specs.Words.{Words, reserved_bit, reserved_bits, reserved_words, LaysReserved, TouchesStored, TouchesWords}
 use Rattle.ffs_memory.specs.Touching.{TouchesTo}
 
 -- the bits of a word that isn't touched
@@ -62,11 +62,6 @@ reserved_split reserved a (suc n) m (suc t) e =
 pub reserved_on : (reserved : Option Geometry) (xs : List ℕ) (a n m t b : ℕ) → t ≡ n + m → b ≡ a + n →
     (xs ++ reserved_words reserved a n) ++ reserved_words reserved b m ≡ xs ++ reserved_words reserved a t
 reserved_on reserved xs a n m t b e at = grind (arith, append_assoc, reserved_split)
-
--- one word more
-pub reserved_more : (reserved : Option Geometry) (xs : List ℕ) (a n b w : ℕ) → b ≡ a + n → w ≡ reserved_bits reserved b →
-    (xs ++ reserved_words reserved a n) ++ w ∷ [] ≡ xs ++ reserved_words reserved a (b + 1 - a)
-reserved_more reserved xs a n b w at is = grind (arith, append_assoc, map-range_with_len_more)
 
 abbrev words : List ℕ → Ptr → ℕ → Words
 words list address room = record { list = list; address = address; room = room }

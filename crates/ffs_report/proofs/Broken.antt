@@ -1,7 +1,7 @@
 -- Where an output failed among messages: some were said, and it failed within the one after them. (For the
 -- layers above.)
 use Rattle.std.proofs.Common.{◌≡◌, ◌≤◌, ◌+◌, ℕ, refl, sym, ap, ◌∙◌, arith, inl, inr, take, drop, List, [], ◌∷◌}
-use Rattle.std.proofs.Common.{◌++◌, length, append_assoc, append-nil, Option, None, Some, ◌||◌, subst}
+use Rattle.std.proofs.Common.{◌++◌, length, append_assoc, append-nil, Option, None, Some, ◌||◌}
 use Rattle.std.proofs.{lemmas.{Bool.cases_lt, List.{append_cancel_left, take-append-drop, take-append-le}}, Math.Seq.take-append_seam}
 use Rattle.std.specs.Io.KnownBytes.{Appends, append_known}
 use Rattle.ffs_volume.specs.Messages.{Kinds.{Message, has_defect}, Texts.{text_of, texts_of}}
@@ -72,9 +72,6 @@ appends_known : (a : Option (List ℕ)) (xs : List ℕ) → Appends a (append_kn
 appends_known None xs = tt
 appends_known (Some bytes) xs = refl
 
-appends_rest : (a b : Option (List ℕ)) (xs ys : List ℕ) → Appends a b (xs ++ ys) → Appends (append_known a xs) b ys
-appends_rest a b xs ys p = grind (arith, append_assoc)
-
 -- how far a report has come once messages were said
 abbrev said_after : Progress → List Message → Progress
 said_after a ms = record a {
@@ -113,8 +110,7 @@ stopped_where a b ms s =
         prefix = reach.part;
         rest = reach.rest;
         whole = reach.last_is;
-        taken = appends_rest a.sink.taken b.sink.taken (texts_of reach.whole) reach.part
-            (subst (Appends a.sink.taken b.sink.taken) reach.prefix_is s.taken);
+        taken = grind (arith, append_assoc);
         failed = s.failed;
         cause = s.cause;
       };

@@ -42,9 +42,6 @@ shown_part a b c bytes from to order p q =
     subst (Took a c) (sym (parts bytes from to order))
     (took_then a b c (map shown (take from bytes)) (map shown (take (to - from) (drop from bytes))) p q)
 
-or_overlap : (a b c : Bool) → ((a || b) || (b || c)) ≡ (a || (b || c))
-or_overlap a b c = grind arith
-
 -- a test of two parts that overlap is a test of all
 pub any_overlap : (p : ℕ → Bool) (xs : List ℕ) (m k : ℕ) → k ≤ m → m ≤ length xs →
     (list_any p (take m xs) || list_any p (take (length xs - k) (drop k xs))) ≡ list_any p xs
@@ -60,4 +57,4 @@ any_overlap p xs m k le within =
     ap (list_any p) (sym (take-append-drop (m - k) (drop k xs))) ∙ list_any-append p middle rest in
     let all : list_any p xs ≡ (list_any p (take k xs) || list_any p (drop k xs)) =
     ap (list_any p) (sym (take-append-drop k xs)) ∙ list_any-append p (take k xs) (drop k xs) in
-    rw (rest_all, front, back, all, back) (or_overlap (list_any p (take k xs)) (list_any p middle) (list_any p rest))
+    rw (rest_all, front, back, all, back) (grind arith)

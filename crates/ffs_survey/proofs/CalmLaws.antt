@@ -130,11 +130,8 @@ pub frontier_reached : {v : Graph} {k : ℕ} {xs : List ℕ} {r : List Bool} {p 
     LevelsKnown v k r p q → (i d : ℕ) → i < length xs → bool_at r (get_or xs i d) ≡ true
 frontier_reached {xs = xs} f l i d h = l.reaches (get_or xs i d) ∙ frontier_within f i d h
 
-reached_below : (r : List Bool) (x : ℕ) → bool_at r x ≡ true → x < length r
-reached_below r x h = grind (arith, get_or_past)
-
 -- reading the directories that aren't reached leaves the parents of those that are
 pub read_stays : {g : Graph} {kinds : List ℕ} {r : List Bool} {n : ℕ} {old new : Found} → IsRead g kinds r n old new →
     length r ≡ g.count → (x : ℕ) → bool_at r x ≡ true → number_at new.parents x ≡ number_at old.parents x
 read_stays {g = g} {kinds = kinds} {r = r} {n = n} {old = old} read long x h =
-    grind (arith, reached_below, first_below-is_none)
+    grind (arith, first_below-is_none, get_or_past)

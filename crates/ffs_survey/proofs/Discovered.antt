@@ -87,16 +87,12 @@ reach_hit {e = e} q s c i lr lp lq = from_each (λ x. let push = occurrences-pus
     (grind (arith, set_tests), grind (arith, set_tests), grind (arith, set_tests)))
 
 -- ---- a directory, and a level
-from_entries-cons : (kinds : List ℕ) (s : ℕ) (e : RoledEntry) (rest : List RoledEntry) (x : ℕ) →
-    from_entries kinds s (e ∷ rest) x ≡ option_or (from_entries kinds s (e ∷ []) x) (from_entries kinds s rest x)
-from_entries-cons kinds s e rest x = grind arith
-
 -- the step of the loop over a directory
 pub entry_step : {g : ℕ → Option ℕ} {r r' r'' : List Bool} {p p' p'' q q' q'' : List ℕ} (kinds : List ℕ) (s : ℕ)
     (e : RoledEntry) (rest : List RoledEntry) → SameResult g r p q (from_entries kinds s (e ∷ rest)) r' p' q' →
     SameResult (from_entries kinds s (e ∷ [])) r' p' q' nothing r'' p'' q'' →
     SameResult g r p q (from_entries kinds s rest) r'' p'' q''
-entry_step kinds s e rest a b = same_result-trans a (same_result-then (from_entries-cons kinds s e rest) b)
+entry_step kinds s e rest a b = same_result-trans a (same_result-then (grind arith) b)
 
 -- what a directory's entries discover, by its edges, before those of others
 from_edges : (kinds : List ℕ) (entries : ℕ → List RoledEntry) (s x : ℕ) (o : Option ℕ) → is_dir_at kinds s ≡ true →

@@ -1,10 +1,10 @@
 -- A level in the queue, and the next one, once what was discovered is sorted.
-use Rattle.std.proofs.Common.{◌≡◌, ◌++◌, ℕ, ◌+◌, ◌-◌, ◌*◌, ◌^◌, ◌<◌, ◌≤◌, Bool, List, length, take, drop, arith, ◌∙◌}
+use Rattle.std.proofs.Common.{◌≡◌, ◌++◌, ℕ, ◌+◌, ◌*◌, ◌^◌, ◌<◌, ◌≤◌, Bool, List, length, take, drop, arith, ◌∙◌}
 use Rattle.std.{proofs.Common.{ap, All, true}, specs.declared.{vec.Vec.Vec, alloc.Global.Global}}
 use Rattle.ffs_volume.specs.Directories.{Graph.Graph, Roles.RoledEntry}
 use Rattle.ffs_memory.specs.Filled.{SortsPart}
-use Rattle.ffs_survey.specs.{declared.lists.Lists.Lists, Lent.{SameLists, found_up_to, CountsAtMost}, Levels.Discovers}
-use Rattle.ffs_survey.specs.Discover.{IsReachedDir, Found, Extends, IsFrontier, LevelsKnown, from_dirs}
+use Rattle.ffs_survey.specs.{declared.lists.Lists.Lists, Lent.{CountsAtMost}}
+use Rattle.ffs_survey.specs.Discover.{IsReachedDir, Extends, IsFrontier, LevelsKnown, from_dirs}
 use Rattle.ffs_survey.{specs.{Discover.unset, Survey.{number_at, graph_with}}, proofs.Remaining.{nothing, SameResult}}
 use Rattle.ffs_volume.specs.Encodings.Kinds.{is_dir_at}
 use Rattle.ffs_survey.proofs.{CalmLaws.frontier_reached, Frontiers.{frontier_dirs, sane_of}}
@@ -40,13 +40,6 @@ level_reached entries root level i d l = record {
   dir = frontier_dirs level.at.frontier root i d l;
   is_reached = frontier_reached level.at.frontier level.at.levels i d l;
 }
-
-pub next_room : {here mid : Lists} {new : Vec ℕ Global} {low high end : ℕ} {reads : Found → Found → Type 0} →
-    SameLists here mid → HasRoomForLevel low high here.references.now.items here.reached.now.items here.queue.now.items →
-    Discovers ((high - low) * 2 ^ 28) high end reads (found_up_to here high) (found_up_to mid end) →
-    SortsPart mid.queue.now new high end →
-    HasRoomForLevel high end mid.references.now.items mid.reached.now.items new.items
-next_room {here = here} {mid = mid} {new = new} {high = high} {end = end} same room found sorted = grind arith
 
 pub next_at : {old : List ℕ} {mid new : Vec ℕ Global} {r r' : List Bool} {p p' : List ℕ} {low high end : ℕ}
     (kinds : List ℕ) (entries : ℕ → List RoledEntry) → 2 < length kinds → Extends high end old mid.items →

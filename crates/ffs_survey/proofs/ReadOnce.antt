@@ -1,8 +1,8 @@
 -- Each reached directory is read once, when no child of it is reached: so those that are calm by the
 -- parents of what they name have a flag.
-use Rattle.std.proofs.Common.{◌≡◌, ◌≢◌, ℕ, zero, suc, ◌+◌, ◌-◌, ◌<◌, ◌≤◌, Bool, true, false, List, [], ◌∷◌, length}
+use Rattle.std.proofs.Common.{◌≡◌, ◌≢◌, ℕ, zero, suc, ◌+◌, ◌-◌, ◌<◌, ◌≤◌, Bool, true, List, [], ◌∷◌, length}
 use Rattle.std.proofs.Common.{take, drop, get_or, All, Some, unwrap_or, arith}
-use Rattle.std.proofs.Common.{refl, sym, ◌∙◌, ap, subst, inl, inr, length-take, nat_le, set}
+use Rattle.std.proofs.Common.{refl, sym, ◌∙◌, ap, subst, inl, inr, length-take, nat_le}
 use Rattle.std.proofs.lemmas.Bool.{and_parts, and_from, eq-eqb, ne_eqb, cases_lt, leb-true, Decides.nat_tests}
 use Rattle.std.proofs.lemmas.List.{get_or-drop, get_or_default, length-drop, get_or-take}
 use Rattle.ffs_volume.specs.declared.{Role.{Role, TheVariants.{Empty, Dot, Dotdot, Extra, Plain}}}
@@ -16,7 +16,7 @@ use Rattle.ffs_survey.specs.Discover.{bit, from_entries, occurrences, IsFrontier
 use Rattle.ffs_survey.proofs.Remaining.{nothing, SameResult}
 use Rattle.ffs_survey.{proofs.ParentLaws.{parent_above, root_level}, specs.Survey.{bool_at, graph_with, number_at}}
 use Rattle.ffs_volume.specs.Encodings.Kinds.{is_dir_at}
-use Rattle.ffs_survey.proofs.{CalmLaws.{Stays, all_calm, same_result_stays}, Discovered.{bit-le, set_tests}}
+use Rattle.ffs_survey.proofs.{CalmLaws.{Stays, all_calm, same_result_stays}, Discovered.{bit-le}}
 use Rattle.ffs_survey.proofs.Frontiers.{bit-one, occurrences-at, occurrences-cons}
 use Rattle.ffs_survey.proofs.{Frontiers.{frontier_dirs, occurrences-index, sane_of, within-bound}, Queues.at_place}
 
@@ -137,11 +137,6 @@ other_place xs low a i unread from less inside =
     let differ = unread.once (a - low) (i - low) 0 (omega arith) (omega (arith, length-drop low xs)) in
     rw (there a from, there i (omega arith)) at differ
 
--- what holds at each place of a level holds of all its directories
-pub all_places : (P : ℕ → Type 0) (low : ℕ) (xs : List ℕ) →
-    ((i : ℕ) → low ≤ i → i < length xs → P (number_at xs i)) → All P (drop low xs)
-all_places P low xs each i d l = grind (arith, length-drop, get_or-drop, get_or_default)
-
 -- ---- the directories of a level are read, one after another
 -- those before `at` are, and those from there on aren't
 pub record IsReadTo (kinds : List ℕ) (m r : List Bool) (p : List ℕ) (entries : ℕ → List RoledEntry)
@@ -156,8 +151,7 @@ pub level_read : {kinds : List ℕ} {m r r' : List Bool} {p p' : List ℕ} {f : 
     IsReadTo kinds m r' p' entries right_shape f level low at) → AreUnread r p (drop low level) →
     All (λ d. IsReadOnce (dir_by kinds m p' d) r' p' (entries d) (right_shape d) f) (drop low level)
 level_read {kinds = kinds} {m = m} {r' = r'} {p' = p'} {f = f} entries right_shape level low at end read unread =
-    all_places (λ d. IsReadOnce (dir_by kinds m p' d) r' p' (entries d) (right_shape d) f) low level
-    (λ i from inside. (read unread).done i from (omega arith))
+    grind (arith, length-drop, get_or-drop, get_or_default)
 
 pub read_from : {kinds : List ℕ} {m r : List Bool} {p : List ℕ} {entries : ℕ → List RoledEntry}
     {right_shape : ℕ → Bool} {f : List Bool} (level : List ℕ) (low : ℕ) → AreUnread r p (drop low level) →
@@ -224,8 +218,3 @@ pub read_each : {kinds : List ℕ} {m r : List Bool} {p : List ℕ} {f : List Bo
     IsReadOnce (dir_by kinds m p d) r p (entries d) (right_shape d) f
 read_each {kinds = kinds} {m = m} {r = r} {p = p} {f = f} entries right_shape high q queued read d reached =
     grind (arith, occurrences-index, length-take, get_or-take)
-
--- where inode 2 is no directory, no directory is reached
-pub root_alone_reached : (r : List Bool) (kinds : List ℕ) (d : ℕ) → ((x : ℕ) → bool_at r x ≡ false) →
-    is_dir_at kinds 2 ≡ false → is_dir_at kinds d ≡ true → bool_at (set r 2 true) d ≡ true → ⊥
-root_alone_reached r kinds d none dry dir reached = let old = none d in grind (arith, set_tests)

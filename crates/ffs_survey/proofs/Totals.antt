@@ -1,6 +1,6 @@
 -- The sums over a list of directories and over all of them, and steps of the count over entries.
 use Rattle.std.proofs.Common.{◌≡◌, ℕ, zero, suc, ◌+◌, ◌*◌, ◌<◌, ◌≤◌, ◌==◌, nat_lt, Bool, true, false, not, cond, ◌&&◌}
-use Rattle.std.proofs.Common.{◌||◌, List, [], ◌∷◌, refl, arith, sym, ◌∙◌, ap, inl, inr, sum_by, length, count_by, drop}
+use Rattle.std.proofs.Common.{◌||◌, List, [], ◌∷◌, refl, arith, ◌∙◌, ap, inl, inr, sum_by, length, count_by, drop}
 use Rattle.std.proofs.{Common.get_or, lemmas.Bool.{both_ways, cases_lt, cond-true, cond-false, and_parts, and_from}}
 use Rattle.std.proofs.lemmas.Bool.{or_left, or_right, or_cases, lt-ltb, le-ltb, Decides.nat_tests}
 use Rattle.std.{proofs.lemmas.List.{Sums.sum_by-cons, at_drop_more}, specs.List.list_any}
@@ -30,18 +30,12 @@ here-times k n [] = rw (occurrences-nil n) (omega arith)
 here-times k n (y ∷ q) = rw (occurrences-cons n y q)
     (omega (arith, sum_by-cons (λ s. cond (s == n) k 0) y q, here-times k n q, bit-times (y == n) k))
 
-here-bit : (k n : ℕ) (q : List ℕ) (b : Bool) → occurrences n q ≡ bit b → here k n q ≡ cond b k 0
-here-bit k n q b h = here-times k n q ∙ (ap (λ o. o * k) h ∙ sym (bit-times b k))
-
-part-at : (c : ℕ → ℕ) (n s : ℕ) → cond (nat_lt s (suc n)) (c s) 0 ≡ cond (nat_lt s n) (c s) 0 + cond (s == n) (c n) 0
-part-at c n s = grind (arith, nat_tests)
-
 part-suc : (c : ℕ → ℕ) (n : ℕ) (q : List ℕ) → part c (suc n) q ≡ part c n q + here (c n) n q
 part-suc c n [] = refl
 part-suc c n (y ∷ q) =
     let a = sum_by-cons (λ s. cond (nat_lt s (suc n)) (c s) 0) y q in
     let b = sum_by-cons (λ s. cond (nat_lt s n) (c s) 0) y q in
-    omega (arith, a, b, sum_by-cons (λ s. cond (s == n) (c n) 0) y q, part-at c n y, part-suc c n q)
+    grind (arith, a, b, sum_by-cons (λ s. cond (s == n) (c n) 0) y q, part-suc c n q, nat_tests)
 
 part-zero : (c : ℕ → ℕ) (q : List ℕ) → part c 0 q ≡ 0
 part-zero c [] = refl
@@ -50,7 +44,7 @@ part-zero c (y ∷ q) = grind (arith, sum_by-cons, cond-false, le-ltb, part-zero
 part-is : (c : ℕ → ℕ) (r : ℕ → Bool) (q : List ℕ) → ((s : ℕ) → occurrences s q ≡ bit (r s)) → (n : ℕ) →
     part c n q ≡ costs_below r c n
 part-is c r q h zero = part-zero c q
-part-is c r q h (suc n) = omega (arith, part-suc c n q, here-bit (c n) n q (r n) (h n), part-is c r q h n)
+part-is c r q h (suc n) = grind (arith, part-suc c n q, part-is c r q h n, here-times, bit-times)
 
 -- a list of numbers below n is whole below n
 part-whole : (c : ℕ → ℕ) (n : ℕ) (q : List ℕ) → ((s : ℕ) → n ≤ s → occurrences s q ≡ 0) → sum_by c q ≡ part c n q

@@ -86,12 +86,6 @@ read_none {found = found} kinds entries r (suc n) none =
     subst (λ k. IsRead (graph_with kinds entries) kinds r k found found) one
     (read_skip kinds entries r n (none n (omega arith)) (read_none kinds entries r n (λ x low. none x (omega (arith, low)))))
 
--- what has no mark and no parent yet
-pub unreached_blank : {starts f : List ℕ} {m r : List Bool} {p : List ℕ} (kinds : List ℕ)
-    (entries : ℕ → List RoledEntry) → IsReachedPart (graph_with kinds entries) starts f m r p →
-    (x : ℕ) → is_unreached_dir kinds r x ≡ true → number_at p x ≡ 0
-unreached_blank kinds entries i x h = let a = i.parent x in let b = i.reaches x in grind arith
-
 -- a reached directory has no edge to an unreached one
 unreached_edges : (kinds : List ℕ) (entries : ℕ → List RoledEntry) (r : List Bool) (x s : ℕ) → s < length kinds →
     x < length kinds → ((y : ℕ) → bool_at r y ≡ reached (graph_with kinds entries) y) → bool_at r x ≡ false

@@ -70,19 +70,13 @@ cycle-within f (suc m) d s c h =
     let p = cycle-within f m d l.0 c l.1 in
     grind (arith, climb-suc, climb-zero)
 
-at_least-from : (o : Option ℕ) (d : ℕ) → ((s : ℕ) → o ≡ Some s → d ≤ s) → none_or_at_least o d ≡ true
-at_least-from o d h = grind (arith, nat_tests)
-
-at_least-true : (o : Option ℕ) (d s : ℕ) → none_or_at_least o d ≡ true → o ≡ Some s → d ≤ s
-at_least-true o d s h e = grind (arith, nat_tests)
-
 -- the test for what it says
 pub is_leader_within-from : (f : ℕ → Option ℕ) (n d : ℕ) (i : IsLeader f d) → i.cycle.steps_less_one < n →
     is_leader_within f n d ≡ true
 is_leader_within-from f n d i b =
     let way = some_below-from (λ k. is_value (climb f (suc k) d) d) n i.cycle.steps_less_one b
     (is_value-from _ d i.cycle.returns) in
-    let none = some_below-none (λ k. not (none_or_at_least (climb f k d) d)) n (λ k l. grind (arith, at_least-from)) in
+    let none = some_below-none (λ k. not (none_or_at_least (climb f k d) d)) n (λ k l. grind (arith, nat_tests)) in
     grind arith
 
 pub is_leader_within-true : (f : ℕ → Option ℕ) (n d : ℕ) → is_leader_within f n d ≡ true → IsLeader f d
@@ -94,7 +88,7 @@ is_leader_within-true f n d h =
       least = λ k s e.
           let q = cycle-within f k d s c e in
           let no = some_below-false (λ k. not (none_or_at_least (climb f k d) d)) n (grind arith) q.0 in
-          grind (arith, at_least-true);
+          grind (arith, nat_tests);
     }
 
 -- the steps from d continue

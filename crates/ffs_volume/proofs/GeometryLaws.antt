@@ -4,7 +4,7 @@ use Rattle.ffs_volume.{specs.{declared.Layout.Layout, Disk.Numbers.all_below}, p
 use Rattle.ffs_volume.specs.Disk.Outcome.{is_block_size, is_fragment_size, is_fragment_count, has_valid_sizes}
 use Rattle.ffs_volume.specs.Disk.Outcome.{has_valid_numbers, has_valid_parts, has_valid_cylinders, has_valid_group}
 use Rattle.ffs_volume.specs.Disk.Outcome.{has_valid_summary_area, is_valid_layout, layout_fault}
-use Rattle.ffs_volume.specs.Laws.Geometry.{HasSizes, HasNumbers, HasParts, HasGroup, HasSummaryArea, IsAcceptedLayout}
+use Rattle.ffs_volume.specs.Laws.Geometry.{HasSizes, HasNumbers, HasGroup, HasSummaryArea, IsAcceptedLayout}
 
 block_size : (n : ℕ) → is_block_size n ≡ true → (4096 ≤ n) × (n ≤ 65536)
 unfolding is_block_size
@@ -31,10 +31,6 @@ pub numbers_hold : (v : Layout) → has_valid_numbers v ≡ true → HasNumbers 
 unfolding has_valid_numbers
 numbers_hold v e = grind (arith, nat_tests)
 
-pub parts_hold : (v : Layout) → has_valid_parts v ≡ true → HasParts v
-unfolding has_valid_parts
-parts_hold v e = grind (arith, nat_tests)
-
 pub group_holds : (v : Layout) (c : ℕ) → has_valid_group v c ≡ true → HasGroup v c
 unfolding has_valid_group
 group_holds v c e = grind arith
@@ -51,7 +47,7 @@ shape_holds v e = grind (arith, nat_tests)
 
 -- a layout without a fault is a geometry, whose fragments lie in the image
 pub geometry_holds : (v : Layout) (n : ℕ) → layout_fault v n ≡ None → IsAcceptedLayout v × (v.size * v.fsize ≤ n)
-unfolding layout_fault has_valid_cylinders
+unfolding layout_fault has_valid_cylinders has_valid_parts
 geometry_holds v n e =
     let shaped : is_valid_layout v ≡ true = grind (arith, nat_tests) in
     let s = shape_holds v shaped in (
@@ -64,7 +60,7 @@ geometry_holds v n e =
         sbsize_high = grind (arith, nat_tests);
         sizes = sizes_hold v s.0;
         numbers = numbers_hold v s.1;
-        parts = parts_hold v s.2;
+        parts = grind (arith, nat_tests);
         groups = λ c lt. group_holds v c (all_below-at v.ncg c (has_valid_group v) s.3 lt);
         summary = summary_holds v s.4;
       },

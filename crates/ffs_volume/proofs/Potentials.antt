@@ -1,6 +1,6 @@
 -- What the Runs that are seen and the offers that are kept use up, over the steps of an inode.
 use Rattle.std.proofs.Common.{◌≡◌, ℕ, ◌+◌, ◌<◌, ◌≤◌, Bool, true, false, if◌then◌else◌, nat_lt, List, [], ◌∷◌, length}
-use Rattle.std.proofs.Common.{suc, count_by, arith, ◌∙◌, slice_set, length-set, slice_index, slice_index_or, All}
+use Rattle.std.proofs.Common.{suc, arith, ◌∙◌, length-set, slice_index, All}
 use Rattle.std.proofs.lemmas.{Bool.{and_parts, cond_both, Decides.nat_tests}, List.Elements.{All-head, All-tail}}
 use Rattle.std.proofs.lemmas.List.{FromFn.{length-range_with_len, get_or-range_with_len}, Sums.count_by-le-length}
 use Rattle.std.{proofs.lemmas.List.Sums.sum_by-set, specs.List.range_with_len}
@@ -15,11 +15,6 @@ use Rattle.ffs_volume.specs.declared.Step.{Step, TheVariants.{Run, Tail, Gap}}
 pub cond_holds : {A : Type 0} (P : A → Type 0) (b : Bool) (x y : A) → (b ≡ true → P x) → (b ≡ false → P y) →
     P (if b then x else y)
 cond_holds P b x y first second = cond_both b x y P first second
-
--- setting a bit that is clear sets one more
-pub count_set : (bits : List Bool) (f : ℕ) → f < length bits → slice_index_or bits f false ≡ false →
-    count_by (λ b. b) (slice_set bits f true) ≡ count_by (λ b. b) bits + 1
-count_set bits f h e = grind (arith, sum_by-set)
 
 pub in_range_below : (v : Layout) (f : ℕ) → is_fragment_in_range v f ≡ true → f < v.size
 unfolding is_fragment_in_range
@@ -62,7 +57,7 @@ offers_keep v s (f ∷ fs) =
 offer_raises : (v : Layout) (s : Claims) (f : ℕ) → length s.used ≡ v.size →
     (potential s ≤ potential (after_offer v s f)) × (is_fragment_in_range v f ≡ true →
     (after_offer v s f).kept + potential s ≤ s.kept + potential (after_offer v s f))
-offer_raises v s f h = grind (arith, count_set, in_range_below)
+offer_raises v s f h = grind (arith, in_range_below, sum_by-set)
 
 offers_raise : (v : Layout) (s : Claims) (fs : List ℕ) → length s.used ≡ v.size →
     (potential s ≤ potential (after_offers v s fs))

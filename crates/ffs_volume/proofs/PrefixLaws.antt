@@ -31,13 +31,7 @@ prefix_then {i = i} {k = k} {k' = k'} {fs = fs} {fs' = fs'} f g shut = elim f.en
       record { rest = g.rest; parts = cc (append_assoc k k' g.rest, append-nil k, f.parts, g.parts, none); end = g.end }
   | inr over ↦ record {
     rest = f.rest ++ map (offer_of i) fs';
-    parts = cc (
-      append-nil k,
-      append_assoc k f.rest (map (offer_of i) fs'),
-      map-append (offer_of i) fs fs',
-      f.parts,
-      (shut over).0,
-    );
+    parts = grind (arith, append_assoc, map-append);
     end = inr (shut over).1;
   }
 ]

@@ -1,6 +1,6 @@
 -- Laws of `specs/Encodings/Replay`.
-use Rattle.std.proofs.Common.{◌≡◌, ℕ, ◌+◌, ◌-◌, ◌<◌, ◌≤◌, false, arith, refl, ap, List, [], ◌∷◌, ◌++◌, nat_lt}
-use Rattle.std.proofs.{Common.{if◌then◌else◌, map}, lemmas.Bool.{Decides.nat_tests, and_right}}
+use Rattle.std.proofs.Common.{◌≡◌, ℕ, ◌+◌, ◌-◌, ◌≤◌, false, arith, refl, ap, List, [], ◌∷◌, ◌++◌, nat_lt}
+use Rattle.std.proofs.{Common.{map}, lemmas.Bool.{Decides.nat_tests, and_right}}
 use Rattle.std.{proofs.lemmas.List.FromFn.length-range_with_len, specs.List.range_with_len}
 use Rattle.ffs_volume.{proofs.{Potentials.offers_keep, PrefixLaws.shut_steps}, specs.Blocks.Claims.Claims}
 use Rattle.ffs_volume.specs.Blocks.Claims.{at_next_inode, is_open, after_offers, after_run, after_step, after_steps}
@@ -49,12 +49,6 @@ full_ends : (v : Layout) (s : Claims) (steps : List Step) → nat_lt s.dup_offer
 full_ends v s steps e =
     ap (λ x. x.kept) (shut_steps v 0 s steps (and_right (nat_lt s.bad 11) (nat_lt s.dup_offers 11) e)).1
 
--- how many offers of a Run are kept, by the counts of the states before it, after it and at the end
-taken_is : (sk tk td ek ed len : ℕ) → sk ≤ tk → tk ≤ sk + len → (td < 11 → tk ≡ sk + len) → tk ≤ ek →
-    td ≤ ed → ed + tk ≤ ek + td → td ≤ tk → (nat_lt td 11 ≡ false → ek ≡ tk)
-    → sk + taken_of (if nat_lt ed 11 then 0 else ek) sk len ≡ tk
-taken_is sk tk td ek ed len low high whole on dups rise few full = grind (arith, nat_tests)
-
 -- the same of the states
 offers_replay : (v : Layout) (s t : Claims) (start len : ℕ) (steps : List Step) → t.kept ≡ s.kept →
     t.dup_offers ≡ s.dup_offers → s.dup_offers ≤ s.kept
@@ -62,7 +56,7 @@ offers_replay : (v : Layout) (s t : Claims) (start len : ℕ) (steps : List Step
     ≡ (after_offers v t (range_with_len start len)).kept
 offers_replay v s t start len steps k d few =
     let keep = offers_keep v t (range_with_len start len) in
-    grind (arith, length-range_with_len, steps_grow, taken_is, full_ends)
+    grind (arith, length-range_with_len, steps_grow, full_ends, nat_tests)
 
 pub seen_replays : (v : Layout) (s : Claims) (steps : List Step) → s.dup_offers ≤ s.kept →
     is_replay_open (cut_of (after_steps v s steps)) (replay_of s) ≡ is_open s

@@ -2,7 +2,7 @@
 use Rattle.std.proofs.Common.{zero, suc, ◌≡◌, ℕ, ◌+◌, ◌≤◌, arith, refl, List, [], ◌∷◌, ◌++◌, replicate}
 use Rattle.ffs_volume.proofs.ReplayIsKeeping.{replay_of, replayed_step_offers, replayed_offers, seen_replays}
 use Rattle.ffs_volume.{proofs.ReplayIsKeeping.{step_replays, step_few}, specs.Blocks.Claims.{Claims, at_next_inode}}
-use Rattle.ffs_volume.specs.{Blocks.Claims.{after_offers, after_run, after_step, after_steps}, declared.Step.Step}
+use Rattle.ffs_volume.specs.{Blocks.Claims.{after_offers, after_step, after_steps}, declared.Step.Step}
 use Rattle.ffs_volume.{proofs.Potentials.offers_keep, specs.Encodings.Replay.{Replay, fresh_replay, cut_of}}
 use Rattle.ffs_volume.specs.Encodings.{Replay.{replay_after_step, is_replayed, replayed_steps}, ReplayCounts.seen_run}
 use Rattle.ffs_volume.specs.{Encodings.ReplayCounts.{replayed_runs, replay_step_by_cut}, declared.Layout.Layout}
@@ -24,15 +24,12 @@ gaps_seen v cut r (suc n) steps = omega (arith, gaps_seen v cut r n steps)
 pub offers_runs : (v : Layout) (s : Claims) (fs : List ℕ) → (after_offers v s fs).runs ≡ s.runs
 offers_runs v s fs = (offers_keep v s fs).runs_is
 
-run_runs : (v : Layout) (s : Claims) (start len : ℕ) → (after_run v s start len).runs ≡ s.runs + 1
-run_runs v s start len = grind (arith, offers_runs)
-
 run_offers_of_step : (v : Layout) (s : Claims) (step : Step) (steps : List Step) → s.dup_offers ≤ s.kept
     → (after_step v s step).runs ≡ s.runs + seen_run (cut_of (after_steps v s (step ∷ steps))) (replay_of s) step
 run_offers_of_step v s Gap steps few = omega arith
 run_offers_of_step v s Tail steps few = grind arith
 run_offers_of_step v s (Run start len block) steps few =
-    let seen = seen_replays v s (Run start len block ∷ steps) few in grind (arith, run_runs)
+    let seen = seen_replays v s (Run start len block ∷ steps) few in grind (arith, offers_runs)
 
 run_offers_of_steps : (v : Layout) (s : Claims) (steps : List Step) → s.dup_offers ≤ s.kept
     → (after_steps v s steps).runs ≡ s.runs + replayed_runs v (cut_of (after_steps v s steps)) (replay_of s) steps

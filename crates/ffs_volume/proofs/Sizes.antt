@@ -1,5 +1,5 @@
 -- What follows from sizes: there is an inode 2, and where an inode's size is 0 there are no steps.
-use Rattle.std.{proofs.{Common.{◌≡◌, ℕ, ◌*◌, ◌<◌, List, [], arith}, Math.Nat.{zero-div, zero-mod}}, specs.Int.div_ceil}
+use Rattle.std.{proofs.{Common.{◌≡◌, ℕ, ◌*◌, ◌<◌, List, [], arith}, Math.Nat.{zero-div, zero-mod}}}
 use Rattle.ffs_volume.specs.{Blocks.Steps.steps_of, Laws.Geometry.IsAcceptedLayout, declared.Inode.Inode}
 use Rattle.ffs_volume.specs.declared.Layout.{Layout}
 
@@ -7,10 +7,6 @@ use Rattle.ffs_volume.specs.declared.Layout.{Layout}
 pub some_inodes : (v : Layout) → IsAcceptedLayout v → 2 < v.ncg * v.ipg
 some_inodes v g = grind arith
 
--- no steps where the size is 0
-pub no_blocks : (n b : ℕ) → 0 < b → n ≡ 0 → div_ceil n b ≡ 0
-no_blocks n b h e = rw (e, zero-div, zero-mod)
-
 pub no_steps : (v : Layout) (image : List ℕ) (i : Inode) → 0 < v.bsize → i.size ≡ 0 → steps_of v i image ≡ []
 unfolding steps_of
-no_steps v image i h e = grind (arith, no_blocks)
+no_steps v image i h e = grind (arith, zero-div, zero-mod)

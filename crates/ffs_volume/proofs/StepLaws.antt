@@ -6,7 +6,7 @@ use Rattle.std.proofs.{Common.{append-nil, All}, lemmas.{Bool.Decides.nat_tests,
 use Rattle.std.{proofs.lemmas.List.Elements.{All-nil, All-cons}, specs.{Int.div_ceil, List.range_with_len}}
 use Rattle.ffs_volume.specs.Blocks.{Inodes.{logical_blocks_of, addresses_needed}, Steps.{FileBlocks, block_bytes}}
 use Rattle.ffs_volume.specs.Blocks.Steps.{address_at, indirect_addresses_needed, tail_of, any_nonzero_from, steps_under}
-use Rattle.ffs_volume.specs.Blocks.Steps.{span_of, data_step, indirect_steps, steps_at, indirection_of, first_block}
+use Rattle.ffs_volume.specs.Blocks.Steps.{span_of, indirect_steps, steps_at, indirection_of, first_block}
 use Rattle.ffs_volume.specs.{Blocks.Steps.{last_length_of, is_walked, steps_of}, Disk.Areas.is_run_in_range}
 use Rattle.ffs_volume.specs.{Laws.{Geometry.IsAcceptedLayout, RunLengths.HasLength}, declared.Inode.Inode}
 use Rattle.ffs_volume.specs.declared.{Layout.Layout, Step.{Step, TheVariants.{Run, Tail, Gap}}}
@@ -58,13 +58,6 @@ within_long frag low high (step ∷ xs) w = All-cons (HasLength frag) step xs tt
 abbrev IsFit : FileBlocks → Type 0
 IsFit t = (0 < t.last_length) × (t.last_length ≤ t.layout.frag)
 
-data_within : (t : FileBlocks) (address block : ℕ) → IsFit t →
-    Within t.layout.frag block (block + 1) (data_step t address block ∷ [])
-data_within t address block l = grind arith
-
-tail_within : (frag first : ℕ) (b : Bool) → Within frag first first (tail_of b)
-tail_within frag first b = grind arith
-
 indirect_within : (t : FileBlocks) (bytes : List ℕ) (child : ℕ → ℕ → List Step) (span address first : ℕ) → IsFit t
     → ((a f : ℕ) → Within t.layout.frag f (f + span) (child a f))
     → Within t.layout.frag first (first + t.layout.nindir * span) (indirect_steps t bytes child span address first)
@@ -90,7 +83,7 @@ indirect_within t bytes child span address first l h =
         let y : 0 + used ≡ used = omega arith in
         let whole = within_append t.layout.frag first (first + used * span) (first + t.layout.nindir * span) under []
         (rw (z, y) at u) (omega arith) in
-        within_append t.layout.frag first first _ tail under (tail_within _ _ _) (rw append-nil at whole)
+        within_append t.layout.frag first first _ tail under (grind arith) (rw append-nil at whole)
 
     one : (a b : Bool) → Within t.layout.frag first (first + t.layout.nindir * span)
         (if a then Gap ∷ [] else Run address t.layout.frag None ∷ (if b then tail ++ under else []))
@@ -104,7 +97,7 @@ span_more words (suc level) = refl
 at_within : (t : FileBlocks) (bytes : List ℕ) (level address first : ℕ) → IsFit t
     → Within t.layout.frag first (first + span_of t.layout.nindir level) (steps_at t bytes level address first)
 unfolding steps_at
-at_within t bytes zero address first l = data_within t address first l
+at_within t bytes zero address first l = grind arith
 at_within t bytes (suc level) address first l = rw (← span_more t.layout.nindir level)
     (indirect_within t bytes (steps_at t bytes level) _ address first l (λ a f. at_within t bytes level a f l))
 

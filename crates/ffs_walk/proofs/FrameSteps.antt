@@ -1,12 +1,12 @@
 -- What a frame has still to give, where its next word is taken.
 use Rattle.std.proofs.Common.{◌≡◌, ℕ, ◌+◌, ◌-◌, ◌*◌, ◌<◌, ◌≤◌, ◌^◌, Bool, true, false, if◌then◌else◌, List, [], ◌++◌}
-use Rattle.std.proofs.{Common.{Option, arith, refl, ◌==◌}, lemmas.Bool.Decides.nat_tests}
-use Rattle.ffs_volume.specs.{declared.{Layout.Layout, Step.Step}, Blocks.Steps.{block_bytes, address_in, tail_of}}
-use Rattle.ffs_volume.specs.Blocks.Steps.{any_nonzero_from, steps_under, address_at, indirect_addresses_needed}
-use Rattle.ffs_walk.specs.{declared.frame.{Frame.Frame, Item.Item}, Frames.{CanTake, frame_rest, frame_left, IsFrom}}
+use Rattle.std.proofs.{Common.{arith, refl, ◌==◌}, lemmas.Bool.Decides.nat_tests}
+use Rattle.ffs_volume.specs.{declared.{Layout.Layout, Step.Step}, Blocks.Steps.{tail_of}}
+use Rattle.ffs_volume.specs.Blocks.Steps.{steps_under, address_at, indirect_addresses_needed}
+use Rattle.ffs_walk.specs.{declared.frame.{Frame.Frame, Item.Item}, Frames.{CanTake, frame_left, IsFrom}}
 use Rattle.ffs_walk.specs.{declared.frame.Item.TheVariants.{UnusedWord, Word}, Fits.{FrameFits, IsBelow}}
 use Rattle.ffs_walk.specs.{declared.blocks.Blocks.Blocks, Windows.CanWalk}
-use Rattle.ffs_image.specs.Device.{Device, ForContents}
+use Rattle.ffs_image.specs.Device.{Device}
 
 -- the steps under the words from `next` on are those at the next word and then the rest
 pub next_word : (g : Layout) (bytes : List ℕ) (child : ℕ → ℕ → List Step) (span address first next used : ℕ) →
@@ -21,18 +21,6 @@ pub no_tail : (unread found : Bool) (xs : List Step) → (unread ≡ true → fo
     (if unread then tail_of found else []) ++ xs ≡ xs
 no_tail true found xs h = rw (h refl) refl
 no_tail false found xs h = refl
-
--- a frame's rest is the steps at its next word and then the rest after it
-pub word_taken : (g : Layout) (contents : Option (List ℕ)) (span : ℕ) (f : Frame) (block : List ℕ) (address : ℕ) →
-    f.next < f.used →
-    ForContents contents (λ bytes. block ≡ block_bytes g bytes f.address) →
-    (f.unread ≡ true → any_nonzero_from g block f.used ≡ false) →
-    address ≡ address_in g block f.next →
-    ForContents contents (λ bytes. (child : ℕ → ℕ → List Step) →
-    frame_rest g bytes child span f
-    ≡ child address (f.first + f.next * span) ++ steps_under g bytes child span f.address f.first (f.next + 1)
-    (f.used - (f.next + 1)))
-word_taken g contents span f block address h held none is = grind (arith, next_word)
 
 -- one word less is left
 pub less_left : (most : ℕ) (f : Frame) → f.next < f.used → most + (0 + (f.used - (f.next + 1)) * most) ≤ frame_left most

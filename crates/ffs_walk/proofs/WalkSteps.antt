@@ -51,15 +51,11 @@ pub top_next : (bytes : List ℕ) (w : Walk) (level first : ℕ) (step : Step) (
     steps_left bytes w ≡ step ∷ (rest ++ later_rest bytes w)
 top_next bytes w level first step rest h top is at e = grind (arith, rest_at_top, next_address)
 
--- a block has words
-pub some_words : (v : Layout) → IsAcceptedLayout v → 0 < v.nindir
-some_words v sound = omega (arith, sound.sizes.nindir, sound.sizes.bsize_low)
-
 -- what an address has at most is below what a triple indirect one has
 pub most_below : (v : Layout) → IsAcceptedLayout v →
     (1 ≤ most_at v.nindir 3) × (2 + v.nindir * most_at v.nindir 0 ≤ most_at v.nindir 3)
     × (2 + v.nindir * most_at v.nindir 1 ≤ most_at v.nindir 3)
-most_below v sound = grind (arith, some_words)
+most_below v sound = grind arith
 
 -- the next address takes out more than goes into a frame
 pub top_falls : (next used m s' d' t' s d t : ℕ) → next < used → s' + (d' + t') + 1 ≤ s + (d + t) + m →

@@ -3,8 +3,8 @@ use Rattle.std.proofs.Common.{◌≡◌, ℕ, ◌+◌, ◌<◌, Bool, true, fals
 use Rattle.std.{specs.Prelude.{slice_index, nat_lt, ◌==◌, if◌then◌else◌}, proofs.lemmas.Bool.Decides.nat_tests}
 use Rattle.ffs_volume.specs.declared.{Layout.Layout, Inode.Inode, Class.{Class, TheVariants.Dir}}
 use Rattle.ffs_volume.specs.{Laws.Geometry.IsAcceptedLayout, Blocks.{Inodes.inode_of, Steps.steps_of, Owners.owner_of}}
-use Rattle.ffs_volume.specs.Blocks.{Claims.{Claims, at_next_inode, after_steps}, KeptSteps.claims_before}
-use Rattle.ffs_volume.specs.{Directories.Volumes.class_at, Encodings.Replay.{cut_of, cut_at}}
+use Rattle.ffs_volume.specs.Blocks.{Claims.{at_next_inode, after_steps}, KeptSteps.claims_before}
+use Rattle.ffs_volume.specs.{Directories.Volumes.class_at, Encodings.Replay.{cut_at}}
 use Rattle.ffs_volume.proofs.{Potentials.{owner_moves, kept_bound}, CutLaws.{before_length, cut_is}}
 use Rattle.ffs_volume.specs.Encodings.Notes.{first_noted, note_of, note_at, cut_in}
 
@@ -19,23 +19,17 @@ kept_few v image x g =
     let m = owner_moves v image (claims_before v image x) x g h in
     omega (arith, kept_bound s e v.size (m.used_length ∙ h) (omega arith) (omega arith) refl m, g.numbers.size_below)
 
-cut_of_few : (e : Claims) → e.kept < first_noted → cut_of e < first_noted
-cut_of_few e few = grind arith
-
 cut_few : (v : Layout) (image : List ℕ) (x : ℕ) → IsAcceptedLayout v → cut_at v image x < first_noted
-cut_few v image x g = grind (arith, cut_is, cut_of_few, kept_few)
+cut_few v image x g = grind (arith, cut_is, kept_few)
 
 not_below : (a : ℕ) → nat_lt (first_noted + a) first_noted ≡ false
 not_below a = grind (arith, nat_tests)
-
-below_first : (n : ℕ) → n < first_noted → nat_lt n first_noted ≡ true
-below_first n h = grind (arith, nat_tests)
 
 zero_of : (n : ℕ) → (n == 0) ≡ true → n ≡ 0
 zero_of n h = grind (arith, nat_tests)
 
 cut_noted : (class : Class) (i : Inode) (cut : ℕ) → cut < first_noted → cut_in (note_of class i cut) ≡ cut
-cut_noted class i cut few = grind (arith, not_below, zero_of, below_first)
+cut_noted class i cut few = grind (arith, not_below, zero_of, nat_tests)
 
 -- the cut of an inode is what its note says
 pub cut_is_noted : (v : Layout) (image : List ℕ) (x : ℕ) → IsAcceptedLayout v → cut_in (note_at v image x) ≡ cut_at v image x

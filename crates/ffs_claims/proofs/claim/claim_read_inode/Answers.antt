@@ -1,6 +1,7 @@
-use Rattle.std.proofs.{Common.{arith, refl, [], ap, ◌∙◌, ◌≡◌, sym}, lemmas.Result.err_from_is_err_and}
+use Rattle.std.proofs.Common.{arith, refl, [], ap, ◌∙◌, ◌≡◌, sym}
 use Rattle.ffs_volume.{proofs.Potentials.kept_bound, specs.Blocks.{Claims.{after_steps, at_next_inode}, Steps.steps_of}}
 use Rattle.ffs_volume.specs.{Costs.VolumeReads.indirect_in_steps, declared.Class.TheVariants.Free}
+use Rattle.ffs_volume.proofs.Results.{fails_with}
 use Rattle.ffs_report.proofs.Reporting.{of_fault, of_says, of_stops, says_none}
 use Rattle.ffs_maps.proofs.Bits.{bits_long}
 use Rattle.ffs_workspace.specs.Holds.{claims_of}
@@ -26,11 +27,10 @@ claim_steps-requires g c = grind arith
 
 pub returns-in_err-say_class-clause-claims : goal.returns-in_err-say_class-clause-claims
 returns-in_err-say_class-clause-claims g c =
-    let p = err_from_is_err_and c.from_residual.result c.from_residual.ensures.1 in
     let ready = ready_begun c.clear_counts.ensures c.requires.can.claim.ready in
     let few = used_below ready.ready.made in
     let b = begun_runs c.args.workspace.now c.clear_counts.ensures in
-    rw (p.1, p.2) (record {
+    rw (fails_with _ c.from_residual.ensures.1) (record {
       text = class_stopped _ _ _ (claims_of c.args.workspace.now) c.requires.class_is c.in_err-say_class.ensures;
       claims = tt;
       left = grind (arith, stay);
@@ -45,12 +45,11 @@ returns-in_err-say_class-clause-claims g c =
 
 pub returns-in_err-claim_steps-clause-claims : goal.returns-in_err-claim_steps-clause-claims
 returns-in_err-claim_steps-clause-claims g c =
-    let p = err_from_is_err_and c.from_residual-in_err-claim_steps.result c.from_residual-in_err-claim_steps.ensures.1 in
     let v = c.args.geometry.now.layout in
     let s1 = claims_of c.clear_counts.new.workspace in
     let b = begun_runs c.args.workspace.now c.clear_counts.ensures in
     let left = c.claim_steps.ensures.left in
-    rw (p.1, p.2) (record {
+    rw (fails_with _ c.from_residual-in_err-claim_steps.ensures.1) (record {
       text = of_fault (Unit {0}) (Unit {0}) _ _ _ _ _ _ _ _ _
           (class_said v _ _ (claims_of c.args.workspace.now) (ap claims_of c.clear_counts.ensures) c.requires.class_is
           c.in_ok-say_class.ensures) (λ bytes t. refl) c.in_err-claim_steps.ensures.text;
@@ -70,11 +69,10 @@ returns-in_err-claim_steps-clause-claims g c =
 
 pub returns-in_err-say_count-clause-claims : goal.returns-in_err-say_count-clause-claims
 returns-in_err-say_count-clause-claims g c =
-    let p = err_from_is_err_and c.from_residual-in_err-say_count.result c.from_residual-in_err-say_count.ensures.1 in
     let v = c.args.geometry.now.layout in
     let b = begun_runs c.args.workspace.now c.clear_counts.ensures in
     let left = c.claim_steps.ensures.left in
-    rw (p.1, p.2) (record {
+    rw (fails_with _ c.from_residual-in_err-say_count.ensures.1) (record {
       text = of_stops _ _ (λ bytes. []) _ _ _ _ _ (steps_reported v _ _ (claims_of c.args.workspace.now)
           (ap claims_of c.clear_counts.ensures) c.requires.class_is c.in_ok-say_class.ensures
           c.in_ok-claim_steps.ensures.text c.in_ok-claim_steps.ensures.claims) (λ bytes t. refl)

@@ -1,6 +1,5 @@
 use Rattle.std.proofs.Common.{ℕ, suc, arith, refl, ◌≡◌, ◌∙◌, ap, sym, List, ◌++◌, ◌∷◌, false, replicate, []}
-use Rattle.std.proofs.lemmas.Result.{err_from_is_err_and}
-use Rattle.ffs_volume.{proofs.Potentials.moves_then}
+use Rattle.ffs_volume.proofs.{Potentials.moves_then, Results.fails_with}
 use Rattle.ffs_volume.specs.Blocks.Claims.{after_step, after_steps, lines_of_steps, is_open}
 use Rattle.ffs_volume.specs.Blocks.Steps.{steps_of}
 use Rattle.ffs_volume.specs.{declared.Step.TheVariants.Gap, Costs.VolumeReads.indirect_in_steps}
@@ -111,12 +110,11 @@ next-requires g c = can_walk c.loop-next.invariant.geometry c.loop-next.invarian
 
 pub returns-in_err-next : goal.returns-in_err-next
 returns-in_err-next g c =
-    let p = err_from_is_err_and c.from_residual.result c.from_residual.ensures.1 in
     let inv = c.loop-next.invariant in
     let err = c.in_err-next.ensures.leaves.read in
     let ready = ready_read {d' = g.I.Image.device c.next.new.image} err.contents err.size inv.geometry
     c.next.ensures.leaves.kept inv.left.claim.ready in
-    rw (p.1, p.2) (record {
+    rw (fails_with _ c.from_residual.ensures.1) (record {
       text = of_reads inv.said;
       claims = tt;
       image = rw inv.device at err;
@@ -143,7 +141,6 @@ claim_step-requires g c =
 
 pub returns-in_err-seen : goal.returns-in_err-seen
 returns-in_err-seen g c =
-    let p = err_from_is_err_and c.from_residual-in_err-seen.result c.from_residual-in_err-seen.ensures.1 in
     let inv = c.loop-next.invariant in
     let v = c.args.geometry.now.layout in
     let s = claims_of c.loop-next.workspace in
@@ -151,7 +148,7 @@ returns-in_err-seen g c =
     let next = rw (inv.device, c.in-Some.is) at c.in_ok-next.ensures.step.steps in
     let few = seen_bound c.args.workspace.now read.claim.ready.ready.made inv.open_still read.claim_bound in
     let paid = rw c.in-Some.is at (c.in_ok-next.ensures.counted inv.held).paid in
-    rw (p.1, p.2) (record {
+    rw (fails_with _ c.from_residual-in_err-seen.ensures.1) (record {
       text = of_stops _ _ _ _ _ _ _ _ inv.said (lines_on v _ s _ c.loop-next.scan.walk c.next.new.self
           c.in-Some.next next refl) c.in_err-seen.ensures.claims.said;
       claims = tt;

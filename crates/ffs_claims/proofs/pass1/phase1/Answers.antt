@@ -2,7 +2,7 @@ use Rattle.std.proofs.Common.{◌≡◌, ◌+◌, false, arith, refl, subst, sym
 use Rattle.std.proofs.lemmas.{Result.err_from_is_err_and, Bool.cases_lt}
 use Rattle.ffs_volume.{proofs.OwnerLaws.before_next, specs.Blocks.{BlockCheck.phase1_lines, Claims.after_owner}}
 use Rattle.ffs_volume.specs.{Blocks.{KeptSteps.claims_before, Owners.{owner_of, owners_of}}, Report.Whole.run_count}
-use Rattle.ffs_volume.specs.Blocks.Claims.{all_claims}
+use Rattle.ffs_volume.{specs.Blocks.Claims.all_claims, proofs.Results.fails_with}
 use Rattle.ffs_volume.{specs.{Blocks.Inodes.inodes_of, Laws.ClaimBounds.used_bits}, proofs.Sizes.some_inodes}
 use Rattle.ffs_report.proofs.Reporting.{of_part, of_fault, of_same, reports_knowing, says_heading, stops_heading}
 use Rattle.ffs_report.proofs.Reporting.{heading_alone, heading_part, said_knows}
@@ -15,7 +15,7 @@ use Rattle.ffs_claims.proofs.Frames.{changes_then, found_none, fresh_surveyed, r
 use Rattle.ffs_claims.proofs.Frames.{ready_still, ready_surveyed, zeros_passed}
 use Rattle.ffs_claims.proofs.{Inodes.used_below, Numbers.{found_begins, found_cut, found_next, found_all, numbers_most}}
 use Rattle.ffs_claims.proofs.{Numbers.{before_first, before_end, lines_next}, TableReads.{blocks_all, blocks_failed}}
-use Rattle.ffs_claims.proofs.{TableReads.{blocks_later, blocks_next, blocks_none}, IndirectReads.{VolumeRead, read_all}}
+use Rattle.ffs_claims.proofs.{TableReads.{blocks_later, blocks_next}, IndirectReads.{VolumeRead, read_all}}
 use Rattle.ffs_claims.proofs.{IndirectReads.{read_begins, read_failed, read_later, read_next}, FreeInodes.AreFree}
 use Rattle.ffs_claims.proofs.Rescanned.{runs_most}
 use Rattle.ffs_claims.proofs.FreeInodes.{StandsAt, free_by_bytes, has_inodes, lines_later, stands_later}
@@ -23,14 +23,12 @@ use Rattle.ffs_claims.proofs.pass1.phase1.Goals as goal
 
 pub returns-in_err-say-clause-text : goal.returns-in_err-say-clause-text
 returns-in_err-say-clause-text g c =
-    let p = err_from_is_err_and c.from_residual.result c.from_residual.ensures.1 in
-    rw (p.1, p.2) (stops_heading c.in_err-say.ensures.said)
+    rw (fails_with _ c.from_residual.ensures.1) (stops_heading c.in_err-say.ensures.said)
 
 pub returns-in_err-say-clause-cut : goal.returns-in_err-say-clause-cut
 returns-in_err-say-clause-cut g c =
-    let p = err_from_is_err_and c.from_residual.result c.from_residual.ensures.1 in
     let fresh = fresh_held c.args.geometry.now.layout c.args.workspace.now _ c.forget_windows.ensures.only in
-    rw p.1 (λ bytes k. found_cut (found_none c.reserve.new.workspace)
+    rw (fails_with _ c.from_residual.ensures.1) (λ bytes k. found_cut (found_none c.reserve.new.workspace)
     (c.reserve.ensures.claims (fresh_surveyed (fresh k.1)) ∙ sym (before_first c.args.geometry.now.layout bytes))
     (found_begins bytes (fresh_surveyed (fresh k.1)) c.reserve.ensures.only.found))
 
@@ -56,7 +54,7 @@ loop-number-init g c =
       low = omega arith;
       high = λ h. omega arith;
       runs = omega (arith, c.reserve.ensures.runs);
-      reads = blocks_none (omega (arith, c.reserve.ensures.runs));
+      reads = grind arith;
       known = λ bytes k. read_begins v bytes (omega arith) (c.reserve.ensures.claims (fresh_surveyed (fresh k.1)));
       changes = grind arith;
       claims = λ bytes k. c.reserve.ensures.claims (fresh_surveyed (fresh k.1)) ∙ sym (before_first v bytes);
@@ -73,13 +71,12 @@ returns-in_err-claim_inode-clause-faults g c = grind arith
 
 pub returns-in_err-claim_inode-clause-text : goal.returns-in_err-claim_inode-clause-text
 returns-in_err-claim_inode-clause-text g c =
-    let p = err_from_is_err_and c.from_residual-in_err-claim_inode.result
-    c.from_residual-in_err-claim_inode.ensures.1 in
     let v = c.args.geometry.now.layout in
     let inv = c.loop-number.invariant in
     let s = claims_of c.loop-number.workspace in
     let n = c.loop-number.number in
-    rw (p.1, p.2) (of_fault (Unit {0}) (Unit {0}) _ _ _ _ _ _ _ _ c.in_err-claim_inode.field-0.0
+    rw (fails_with _ c.from_residual-in_err-claim_inode.ensures.1)
+    (of_fault (Unit {0}) (Unit {0}) _ _ _ _ _ _ _ _ c.in_err-claim_inode.field-0.0
     inv.said (λ bytes t. lines_next v bytes s (after_owner v s (owner_of v bytes n)) n (omega arith) refl)
     (reports_knowing (Unit {0}) _ _ _ _ _ (Err c.in_err-claim_inode.field-0.0)
     (λ bytes k. ap (λ d. d.contents) inv.device ∙ k.0) c.in_err-claim_inode.ensures.claims.text))
@@ -87,8 +84,7 @@ returns-in_err-claim_inode-clause-text g c =
 pub returns-in_err-claim_inode-clause-cut : goal.returns-in_err-claim_inode-clause-cut
 returns-in_err-claim_inode-clause-cut g c =
     let from = c.from_residual-in_err-claim_inode in
-    let p = err_from_is_err_and from.result from.ensures.1 in
-    rw p.1 (λ bytes k. found_cut c.in_err-claim_inode.ensures.unstored
+    rw (fails_with _ from.ensures.1) (λ bytes k. found_cut c.in_err-claim_inode.ensures.unstored
     (c.loop-number.invariant.claims bytes k) (c.loop-number.invariant.found bytes k))
 
 pub returns-in_err-claim_inode-clause-stays : goal.returns-in_err-claim_inode-clause-stays
@@ -253,11 +249,10 @@ returns-in_err-claim_inode-clause-heading g c = grind (arith, err_from_is_err_an
 
 pub returns-in_err-say-clause-stays : goal.returns-in_err-say-clause-stays
 returns-in_err-say-clause-stays g c =
-    let p = err_from_is_err_and c.from_residual.result c.from_residual.ensures.1 in
     let found = c.reserve.ensures.only.found in
     let forgot = c.forget_windows.ensures.only in
     let now = c.reserve.new.workspace in
-    rw p.1 (record {
+    rw (fails_with _ c.from_residual.ensures.1) (record {
       changes = record {
         only = grind arith;
         used = subst (λ (w : Workspace). StaySet (bits_of w.used) (bits_of now.used)) forgot found.used;

@@ -6,7 +6,7 @@ use Rattle.ffs_image.specs.Known.{ForBytes}
 use Rattle.ffs_report.{proofs.Reporting.reports_knowing, specs.declared.fault.RunFault.{RunFault, TheVariants.{Out, Read}}}
 use Rattle.ffs_volume.specs.Messages.Kinds.{Message}
 use Rattle.ffs_claims.specs.{Moments.ClaimMoment, Phases.WithNotes, Reporting.ClearsAsSaid}
-use Rattle.ffs_claims.proofs.{Clearing.clears_ended, Rescanned.text_noted, pass1b.phase1b.Goals.After-is_spent}
+use Rattle.ffs_claims.proofs.{Rescanned.text_noted, pass1b.phase1b.Goals.After-is_spent}
 use Rattle.ffs_claims.proofs.pass1b.phase1b.Given as given
 use Rattle.ffs_claims.proofs.pass1b.phase1b.Goals as goal
 
@@ -50,7 +50,7 @@ clears_spent : {T : Type 0} {d d' : Device} {h : ℕ} {a b : ClaimMoment} {x : T
     ImageAfter d d' r → (d' ≡ d → ⊥) → ClearsAsSaid h a b r → ClearsAsSaid h a b (Ok x)
 clears_spent (Ok x) same moved p = absurd (moved same)
 clears_spent (Err (Out fault)) same moved p = absurd (moved same)
-clears_spent (Err (Read fault)) same moved p = clears_ended p
+clears_spent (Err (Read fault)) same moved p = grind arith
 
 pub returns-then-is_spent-clause-faults : goal.returns-then-is_spent-clause-faults
 returns-then-is_spent-clause-faults g c = grind arith

@@ -1,6 +1,6 @@
 use Rattle.std.proofs.Common.{Result, Ok, ◌≡◌, ◌≤◌, ◌+◌, ◌-◌, ◌^◌, ◌<◌, ◌∷◌, [], arith, refl, ap, ◌∙◌, Err}
 use Rattle.std.proofs.lemmas.Result.{err_from_is_err_and}
-use Rattle.ffs_volume.{proofs.RunBounds.runs_bounded, specs.Blocks.BlockCheck.first_offer_lines}
+use Rattle.ffs_volume.{proofs.{RunBounds.runs_bounded, Results.fails_with}, specs.Blocks.BlockCheck.first_offer_lines}
 use Rattle.ffs_volume.specs.{Blocks.{KeptSteps.claims_before, Owners.owners_of}, Messages.Kinds.phase1b}
 use Rattle.ffs_report.proofs.Reporting.{of_begins, of_says, of_part, of_fault, of_stops, of_same, reports_knowing}
 use Rattle.ffs_report.proofs.Reporting.{heading_alone, heading_part, said_knows}
@@ -29,22 +29,20 @@ use Rattle.ffs_claims.proofs.pass1b.phase1b_unlimited.Goals as goal
 
 pub returns-in_err-say-clause-again : goal.returns-in_err-say-clause-again
 returns-in_err-say-clause-again g c =
-    let p = err_from_is_err_and c.from_residual.result c.from_residual.ensures.1 in
     let all = phase1b_messages_for (bits_of c.args.workspace.now.duplicates) c.args.geometry.now.layout in
-    rw (p.1, p.2) (of_stops _ all _ _ (phase1b ∷ []) _ _ _ (of_begins {all = all}) (λ bytes t. refl)
+    rw (fails_with _ c.from_residual.ensures.1)
+    (of_stops _ all _ _ (phase1b ∷ []) _ _ _ (of_begins {all = all}) (λ bytes t. refl)
     c.in_err-say.ensures.said)
 
 pub returns-in_err-say-clause-clears : goal.returns-in_err-say-clause-clears
 returns-in_err-say-clause-clears g c =
-    let p = err_from_is_err_and c.from_residual.result c.from_residual.ensures.1 in
-    rw (p.1, p.2) (clears_stopped (phase1b ∷ []) (omega arith) c.in_err-say.ensures.said
+    rw (fails_with _ c.from_residual.ensures.1) (clears_stopped (phase1b ∷ []) (omega arith) c.in_err-say.ensures.said
     (ap (λ (w : Workspace). w.duplicates) c.forget_windows.ensures.only))
 
 pub returns-in_err-say-clause-offers : goal.returns-in_err-say-clause-offers
 returns-in_err-say-clause-offers g c =
-    let p = err_from_is_err_and c.from_residual.result c.from_residual.ensures.1 in
     let forgot = c.forget_windows.ensures.only in
-    rw p.1 (λ bytes k.
+    rw (fails_with _ c.from_residual.ensures.1) (λ bytes k.
     part_none _ _ (ap (λ (w : Workspace). w.duplicates) forgot) (ap (λ (w : Workspace). w.marked) forgot))
 
 pub returns-in_err-say-clause-ready : goal.returns-in_err-say-clause-ready
@@ -89,15 +87,14 @@ returns-in_err-rewalk_inode-clause-faults g c = grind arith
 
 pub returns-in_err-rewalk_inode-clause-again : goal.returns-in_err-rewalk_inode-clause-again
 returns-in_err-rewalk_inode-clause-again g c =
-    let p = err_from_is_err_and c.from_residual-in_err-rewalk_inode.result
-    c.from_residual-in_err-rewalk_inode.ensures.1 in
     let v = c.args.geometry.now.layout in
     let inv = c.loop-number.invariant in
     let n = c.loop-number.number in
     let d = bits_of c.loop-number.workspace.duplicates in
     let notes = c.loop-number.workspace.notes.items in
     let fault : Result (Unit {0}) RunFault = Err c.in_err-rewalk_inode.field-0.0 in
-    rw (p.1, p.2) (of_fault (Unit {0}) (Unit {0}) _ (λ bytes. of_lines (first_offer_lines d (kept_from v bytes n)))
+    rw (fails_with _ c.from_residual-in_err-rewalk_inode.ensures.1)
+    (of_fault (Unit {0}) (Unit {0}) _ (λ bytes. of_lines (first_offer_lines d (kept_from v bytes n)))
     (λ bytes. of_lines (first_offer_lines d (offers_at v bytes notes n)))
     (λ bytes. of_lines (first_offer_lines (after_first d (offers_at v bytes notes n))
     (kept_from v bytes (n + 1))))
@@ -109,10 +106,9 @@ returns-in_err-rewalk_inode-clause-again g c =
 pub returns-in_err-rewalk_inode-clause-offers : goal.returns-in_err-rewalk_inode-clause-offers
 returns-in_err-rewalk_inode-clause-offers g c =
     let from = c.from_residual-in_err-rewalk_inode in
-    let p = err_from_is_err_and from.result from.ensures.1 in
     let v = c.args.geometry.now.layout in
     let inv = c.loop-number.invariant in
-    rw p.1 (λ bytes k. part_then _ (inv.reported bytes k)
+    rw (fails_with _ from.ensures.1) (λ bytes k. part_then _ (inv.reported bytes k)
     (kept_next v bytes c.loop-number.workspace.notes.items c.loop-number.number
     (is_noted c.args.geometry.now.sound inv.low (omega arith) inv.claims k.1))
     (c.in_err-rewalk_inode.ensures.walks.part bytes (ap (λ d. d.contents) inv.device ∙ k.0)))
@@ -120,8 +116,7 @@ returns-in_err-rewalk_inode-clause-offers g c =
 pub returns-in_err-rewalk_inode-clause-clears : goal.returns-in_err-rewalk_inode-clause-clears
 returns-in_err-rewalk_inode-clause-clears g c =
     let from = c.from_residual-in_err-rewalk_inode in
-    let p = err_from_is_err_and from.result from.ensures.1 in
-    rw (p.1, p.2) (clears_after phase1b c.in_ok-say.ensures.said
+    rw (fails_with _ from.ensures.1) (clears_after phase1b c.in_ok-say.ensures.said
     (ap (λ (w : Workspace). w.duplicates) c.forget_windows.ensures.only)
     (clears_then c.loop-number.invariant.clears c.in_err-rewalk_inode.ensures.walks.clears))
 

@@ -1,6 +1,5 @@
 use Rattle.std.proofs.Common.{◌∙◌, [], arith, refl, ap, length, List}
-use Rattle.std.proofs.lemmas.Result.{err_from_is_err_and}
-use Rattle.ffs_volume.specs.Blocks.BlockCheck.{first_offer_lines, set_count}
+use Rattle.ffs_volume.{specs.Blocks.BlockCheck.{first_offer_lines, set_count}, proofs.Results.fails_with}
 use Rattle.ffs_report.proofs.Reporting.{of_begins, of_reads, of_same, of_says, of_stops}
 use Rattle.ffs_maps.specs.Bits.{bits_of}
 use Rattle.ffs_walk.proofs.{Counted.{top_held, top_unread}, ReplayedRuns.indirect_most}
@@ -36,13 +35,12 @@ next-requires g c = can_walk c.loop-run.invariant.geometry c.loop-run.invariant.
 
 pub returns-in_err-run-clause-walks : goal.returns-in_err-run-clause-walks
 returns-in_err-run-clause-walks g c =
-    let p = err_from_is_err_and c.from_residual.result c.from_residual.ensures.1 in
     let inv = c.loop-run.invariant in
     let err = c.in_err-run.ensures.leaves.read in
     let reads = c.in_err-run.ensures.counted inv.held in
     let ready = ready_read {d' = g.I.Image.device c.next.new.image} err.contents err.size inv.geometry
     c.next.ensures.leaves.kept inv.left.ready in
-    rw (p.1, p.2) (record {
+    rw (fails_with _ c.from_residual.ensures.1) (record {
       text = of_reads inv.said;
       rewalked = tt;
       part = λ bytes t. part_now (inv.walk bytes t).reported refl refl;
@@ -56,7 +54,6 @@ returns-in_err-run-clause-walks g c =
 pub returns-in_err-report_run-clause-walks : goal.returns-in_err-report_run-clause-walks
 returns-in_err-report_run-clause-walks g c =
     let from = c.from_residual-in_err-report_run in
-    let p = err_from_is_err_and from.result from.ensures.1 in
     let inv = c.loop-run.invariant in
     let n = c.args.number in
     let did = c.in_err-report_run.ensures.reported in
@@ -64,7 +61,7 @@ returns-in_err-report_run-clause-walks g c =
     let paid = rw c.in-Some.is at (c.in_ok-run.ensures.counted inv.held).paid in
     let on = rereads_on c.in_ok-run.ensures.leaves.read inv.geometry c.next.ensures.leaves.kept did.only inv.left in
     let counts = c.report_run.ensures.runs ∙ c.saturating_add-workspace.ensures in
-    rw (p.1, p.2) (record {
+    rw (fails_with _ from.ensures.1) (record {
       text = of_stops _ _ _ _ _ _ _ _ inv.said
           (λ bytes t. lines_split (bits_of c.loop-run.workspace.duplicates) _ _ _ _ (ap (offers_of_runs n) (next bytes t)) refl)
           did.said;

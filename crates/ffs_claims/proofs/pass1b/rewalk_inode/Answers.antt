@@ -1,7 +1,10 @@
+use Rattle.ffs_claims.proofs.Clearing.{clears_read}
+use Rattle.ffs_claims.proofs.Clearing.{clears_none}
 use Rattle.std.proofs.{Common.{◌∙◌, ap, arith, refl}}
 use Rattle.ffs_report.proofs.Reporting.{reads_first, reports_knowing, reports_same}
 use Rattle.ffs_workspace.specs.Tables.{TakesPiece}
-use Rattle.ffs_claims.{proofs.{Clearing.{clears_from, clears_unread}, Reportings.part_none}, specs.{Lines.of_lines, RescanRuns.{indirect_among, noted_runs, offers_of_runs}}}
+use Rattle.ffs_claims.{proofs.{Clearing.clears_from, Reportings.part_none}, specs.Lines.of_lines}
+use Rattle.ffs_claims.specs.RescanRuns.{indirect_among, noted_runs, offers_of_runs}
 use Rattle.ffs_maps.specs.Bits.{bits_of}
 use Rattle.ffs_volume.specs.Blocks.BlockCheck.{first_offer_lines}
 use Rattle.ffs_volume.proofs.Results.{on_any}
@@ -11,7 +14,7 @@ pub rewalk-requires : goal.rewalk-requires
 rewalk-requires g c = grind arith
 
 pub returns-in_err-inode-clause-walks : goal.returns-in_err-inode-clause-walks
-returns-in_err-inode-clause-walks g c = grind (arith, reads_first, part_none, clears_unread)
+returns-in_err-inode-clause-walks g c = grind (arith, reads_first, part_none, clears_read, clears_none)
 
 pub returns-in_err-inode-clause-by_block : goal.returns-in_err-inode-clause-by_block
 unfolding TakesPiece

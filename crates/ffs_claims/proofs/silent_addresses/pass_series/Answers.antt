@@ -1,5 +1,5 @@
 use Rattle.std.proofs.Common.{◌≡◌, ◌+◌, ◌-◌, ◌∙◌, ap, arith, refl}
-use Rattle.ffs_claims.proofs.SeriesClaims.{series_next, series_none}
+use Rattle.ffs_claims.proofs.SeriesClaims.{series_next}
 use Rattle.ffs_claims.proofs.silent_addresses.pass_series.Goals as goal
 
 pub loop-end-init : goal.loop-end-init
@@ -8,7 +8,7 @@ loop-end-init c =
     record {
       low = omega arith;
       passes = rw none (record {
-        claims = λ s can. series_none s c.args.address;
+        claims = λ s can. grind arith;
         one_word = omega arith;
         held = c.requires.held;
         falls = omega arith;

@@ -1,5 +1,6 @@
+use Rattle.ffs_volume.proofs.ClimbLaws.{is_leader_within-true}
 use Rattle.std.proofs.Common.{arith}
-use Rattle.ffs_connectivity.proofs.Walks.{marks_none, marks_found, older_after}
+use Rattle.ffs_connectivity.proofs.Walks.{marks_found, older_after}
 use Rattle.ffs_connectivity.proofs.cycles.flag_leaders.Goals as goal
 
 pub loop-start-preserved : goal.loop-start-preserved
@@ -27,5 +28,5 @@ loop-start-preserved-in_default c =
       closed = walk.walked.closed;
       older = older_after walk.walked (omega (arith, walk.long)) inv.older;
       begun = grind arith;
-      marks = marks_none walk.walked walk.cycle inv.marks;
+      marks = grind (arith, is_leader_within-true);
     }

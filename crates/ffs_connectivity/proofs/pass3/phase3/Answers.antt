@@ -6,10 +6,10 @@ use Rattle.ffs_image.specs.Known.{ForBytes}
 use Rattle.ffs_report.proofs.Reporting.{of_fault, of_part, of_same, reports_knowing, said_knows, says_heading}
 use Rattle.ffs_report.proofs.Reporting.{heading_alone, heading_part, stops_heading}
 use Rattle.ffs_workspace.{specs.{Found.WithSurvey, declared.workspace.Workspace.Workspace}, proofs.PlaceLaws.filled_noted}
-use Rattle.ffs_volume.specs.Blocks.Inodes.{inodes_of}
+use Rattle.ffs_volume.{specs.Blocks.Inodes.inodes_of, proofs.Results.fails_with}
 use Rattle.ffs_workspace.proofs.Leaving.{claims_left, survey_left, leaves_more, windows_leave}
 use Rattle.ffs_volume.specs.Directories.Connectivity.{unref_dir_lines}
-use Rattle.ffs_connectivity.proofs.UnrefLines.{fails_after, leaders_held, lines_begin, lines_from_dir}
+use Rattle.ffs_connectivity.proofs.UnrefLines.{fails_after, lines_begin, lines_from_dir}
 use Rattle.ffs_connectivity.proofs.pass3.phase3.Goals.{At-loop-number}
 use Rattle.ffs_connectivity.proofs.pass3.phase3.Given as given
 use Rattle.ffs_connectivity.proofs.pass3.phase3.Goals as goal
@@ -22,8 +22,7 @@ known g c bytes k = grind (arith, claims_left, survey_left)
 
 pub returns-in_err-say-clause-text : goal.returns-in_err-say-clause-text
 returns-in_err-say-clause-text g c =
-    let p = err_from_is_err_and c.from_residual.result c.from_residual.ensures.1 in
-    rw (p.1, p.2) (stops_heading c.in_err-say.ensures.said)
+    rw (fails_with _ c.from_residual.ensures.1) (stops_heading c.in_err-say.ensures.said)
 
 pub returns-in_err-say-clause-ready : goal.returns-in_err-say-clause-ready
 returns-in_err-say-clause-ready g c =
@@ -69,12 +68,11 @@ loop-number-init g c =
 
 pub returns-in_err-report_unref-clause-text : goal.returns-in_err-report_unref-clause-text
 returns-in_err-report_unref-clause-text g c =
-    let p = err_from_is_err_and c.from_residual-in_err-report_unref.result
-    c.from_residual-in_err-report_unref.ensures.1 in
     let v = c.args.geometry.now.layout in
     let n = c.loop-number.number in
     let fault = c.in_err-report_unref.field-0.0 in
-    rw (p.1, p.2) (of_fault (Unit {0}) (Unit {0}) _ _ _ (lines_from_dir v (n + 1)) _ _ _ _ fault c.loop-number.invariant.said
+    rw (fails_with _ c.from_residual-in_err-report_unref.ensures.1)
+    (of_fault (Unit {0}) (Unit {0}) _ _ _ (lines_from_dir v (n + 1)) _ _ _ _ fault c.loop-number.invariant.said
     (λ bytes k. from_next (unref_dir_lines (volume_of v bytes)) n (inodes_of v) (omega arith))
     (reports_knowing (Unit {0}) _ _ _ _ _ (Err fault)
     (known g (goal.at.returns-in_err-report_unref-clause-text g c).At-loop-number)
@@ -92,7 +90,7 @@ loop-number-preserved g c =
       device = ok.faults ∙ inv.device;
       low = omega arith;
       survey = leaves_more inv.survey (windows_leave _ _ ok.stays.held);
-      leaders = leaders_held _ _ ok.stays.held inv.leaders;
+      leaders = grind arith;
       reads = grind (arith, count_next);
       said = of_part inv.said
           (λ bytes k. from_next (unref_dir_lines (volume_of v bytes)) n (inodes_of v) (omega arith))
@@ -127,7 +125,7 @@ returns-in_err-report_unref-clause-heading g c = grind (arith, err_from_is_err_a
 
 pub returns-in_err-report_unref-clause-before_fault : goal.returns-in_err-report_unref-clause-before_fault
 returns-in_err-report_unref-clause-before_fault g c =
-    let p = err_from_is_err_and c.from_residual-in_err-report_unref.result c.from_residual-in_err-report_unref.ensures.1 in
     let more = known g (goal.at.returns-in_err-report_unref-clause-before_fault g c).At-loop-number in
-    rw (p.1, p.2) (fails_after (Unit {0}) (Unit {0}) _ _ _ _ _ _ _ c.in_err-report_unref.field-0.0 (omega arith)
+    rw (fails_with _ c.from_residual-in_err-report_unref.ensures.1)
+    (fails_after (Unit {0}) (Unit {0}) _ _ _ _ _ _ _ c.in_err-report_unref.field-0.0 (omega arith)
     c.loop-number.invariant.said more c.in_err-report_unref.ensures.before_fault)

@@ -6,7 +6,7 @@ use Rattle.ffs_report.proofs.Reporting.{reads_first, says_none, stops_all}
 use Rattle.ffs_workspace.{specs.Found.WithSurvey, proofs.TablePlaces.{fails_in_block, fails_in_table}}
 use Rattle.ffs_volume.specs.Directories.Connectivity.{unref_dir_lines}
 use Rattle.ffs_connectivity.proofs.{UnrefLaws.unref_held, UnrefLines.{attributes_are, one_line}}
-use Rattle.ffs_connectivity.proofs.{UnrefLines.{silent, heard}, unref.report_unref.Goals.After-is_unref-unref}
+use Rattle.ffs_connectivity.proofs.{UnrefLines.silent, unref.report_unref.Goals.After-is_unref-unref}
 use Rattle.ffs_connectivity.proofs.unref.report_unref.Goals.{After-of}
 use Rattle.ffs_connectivity.proofs.unref.report_unref.Given as given
 use Rattle.ffs_connectivity.proofs.unref.report_unref.Goals as goal
@@ -25,7 +25,7 @@ heard_of : (g : given.Over) (c : After-of g) →
     (λ bytes. is_unref_dir (volume_of c.args.geometry.now.layout bytes) c.args.number ≡ true →
     map of_tree (unref_dir_lines (volume_of c.args.geometry.now.layout bytes) c.args.number)
     ≡ of_tree (of_reference (UnrefDir c.of.result)) ∷ [])
-heard_of g c bytes k e = grind (arith, heard, attributes_are)
+heard_of g c bytes k e = grind (arith, attributes_are)
 
 pub returns-then-not-unref : goal.returns-then-not-unref
 returns-then-not-unref g c =

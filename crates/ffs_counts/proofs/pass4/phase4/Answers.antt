@@ -1,6 +1,7 @@
 use Rattle.std.proofs.{Common.{◌≡◌, ◌∙◌, ◌+◌, arith, Err, Ok, refl}, lemmas.Result.err_from_is_err_and}
 use Rattle.ffs_volume.specs.Directories.{ReferenceCheck.reference_lines_at, Volumes.volume_of}
 use Rattle.ffs_volume.{proofs.Numbered.{as_many, count_next, from_next, from_end}, specs.Blocks.Inodes.inodes_of}
+use Rattle.ffs_volume.proofs.Results.{fails_with}
 use Rattle.ffs_report.proofs.{Paying.{paid_answer, paid_fault, paid_says, paid_stops, paid_then}, Reporting.of_fault}
 use Rattle.ffs_report.proofs.Reporting.{of_part, of_same, reports_knowing, said_knows, says_heading, heading_alone}
 use Rattle.ffs_report.proofs.Reporting.{heading_part, stops_heading}
@@ -26,8 +27,7 @@ passed g c bytes k = grind (arith, passed_lines)
 
 pub returns-in_err-say-clause-text : goal.returns-in_err-say-clause-text
 returns-in_err-say-clause-text g c =
-    let p = err_from_is_err_and c.from_residual.result c.from_residual.ensures.1 in
-    rw (p.1, p.2) (stops_heading c.in_err-say.ensures.said)
+    rw (fails_with _ c.from_residual.ensures.1) (stops_heading c.in_err-say.ensures.said)
 
 pub returns-in_err-say-clause-leaves : goal.returns-in_err-say-clause-leaves
 returns-in_err-say-clause-leaves g c = c.forget_windows.ensures.only
@@ -52,12 +52,11 @@ loop-number-init g c =
 
 pub returns-in_err-report_references-clause-text : goal.returns-in_err-report_references-clause-text
 returns-in_err-report_references-clause-text g c =
-    let p = err_from_is_err_and c.from_residual-in_err-report_references.result
-    c.from_residual-in_err-report_references.ensures.1 in
     let v = c.args.geometry.now.layout in
     let n = c.loop-number.number in
     let fault = c.in_err-report_references.field-0.0 in
-    rw (p.1, p.2) (of_fault (Unit {0}) (Unit {0}) _ _ _ (lines_after v (n + 1)) _ _ _ _ fault c.loop-number.invariant.said
+    rw (fails_with _ c.from_residual-in_err-report_references.ensures.1)
+    (of_fault (Unit {0}) (Unit {0}) _ _ _ (lines_after v (n + 1)) _ _ _ _ fault c.loop-number.invariant.said
     (λ bytes k. from_next (reference_lines_at (volume_of v bytes)) n (inodes_of v)
     (omega (arith, c.loop-number-test.true)))
     (reports_knowing (Unit {0}) _ _ _ _ _ (Err fault)
@@ -66,9 +65,8 @@ returns-in_err-report_references-clause-text g c =
 
 pub returns-in_err-report_references-clause-before_fault : goal.returns-in_err-report_references-clause-before_fault
 returns-in_err-report_references-clause-before_fault g c =
-    let p = err_from_is_err_and c.from_residual-in_err-report_references.result
-    c.from_residual-in_err-report_references.ensures.1 in
-    rw (p.1, p.2) (fails_before (Unit {0}) (Unit {0}) _ c.args.geometry.now.layout c.loop-number.number _ _ _
+    rw (fails_with _ c.from_residual-in_err-report_references.ensures.1)
+    (fails_before (Unit {0}) (Unit {0}) _ c.args.geometry.now.layout c.loop-number.number _ _ _
     c.in_err-report_references.field-0.0 (omega (arith, c.loop-number-test.true)) c.loop-number.invariant.said c.in_err-report_references.ensures.before_fault)
 
 pub loop-number-preserved-then-skipped-eq0 : goal.loop-number-preserved-then-skipped-eq0

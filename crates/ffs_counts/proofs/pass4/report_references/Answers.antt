@@ -1,13 +1,13 @@
 use Rattle.std.proofs.{Common.{◌≡◌, ◌≤◌, ◌∙◌, arith, ap, length, List, map, rules, sym}, lemmas.List.length-map}
 use Rattle.std.proofs.lemmas.Result.{err_from_is_err_and}
 use Rattle.ffs_volume.specs.Directories.{ReferenceCheck.reference_lines_at, Volumes.volume_of}
-use Rattle.ffs_volume.specs.Messages.Kinds.{TreeMessage, of_tree}
+use Rattle.ffs_volume.{specs.Messages.Kinds.{TreeMessage, of_tree}, proofs.Results.fails_with}
 use Rattle.ffs_report.proofs.Paying.{paid_none, paid_reads, paid_says, paid_stops}
 use Rattle.ffs_image.specs.Known.{ForBytes}
 use Rattle.ffs_report.proofs.Reporting.{reads_first, says_all, says_none, stops_all}
 use Rattle.ffs_workspace.{specs.{Found.WithFindings, Ready.LeavesAllButWindows}, proofs.{Readiness.can_read_table, TablePlaces.{fails_in_block, fails_in_table}}}
 use Rattle.ffs_counts.{specs.References.lines_as, proofs.Holding.{inode_reference_lines_are, item_at, met_lines}}
-use Rattle.ffs_counts.proofs.Holding.{same_reported, some_lines, unmet_line, unmet_reported}
+use Rattle.ffs_counts.proofs.Holding.{some_lines, unmet_line, unmet_reported}
 use Rattle.ffs_counts.proofs.pass4.report_references.Goals.{After-inode}
 use Rattle.ffs_counts.proofs.pass4.report_references.Goals.{After-line_for-line, In_ok-inode}
 use Rattle.ffs_counts.proofs.pass4.report_references.Given as given
@@ -24,7 +24,7 @@ lines_are : (g : given.Over) (c : After-line_for-line g) →
     ForBytes (WithFindings c.args.geometry.now.layout (g.I.Image.device c.args.image.now) c.args.workspace.now)
     (λ bytes. map of_tree (reference_lines_at (volume_of c.args.geometry.now.layout bytes) c.args.number)
     ≡ map of_tree (lines_as c.line_for-line.result))
-lines_are g c bytes k = grind (arith, item_at, some_lines, inode_reference_lines_are, same_reported)
+lines_are g c bytes k = grind (arith, item_at, some_lines, inode_reference_lines_are)
 
 -- it has a line, whatever was read of it
 some : (g : given.Over) (c : After-line_for-line g) → 1 ≤ length (map of_tree (lines_as c.line_for-line.result))
@@ -65,9 +65,8 @@ returns-in_err-inode g c = record {
 
 pub returns-in_err-say_if_any : goal.returns-in_err-say_if_any
 returns-in_err-say_if_any g c =
-    let p = err_from_is_err_and c.from_residual-in_err-say_if_any.result c.from_residual-in_err-say_if_any.ensures.1 in
     let at = goal.at.returns-in_err-say_if_any g c in
-    rw (p.1, p.2) (record {
+    rw (fails_with _ c.from_residual-in_err-say_if_any.ensures.1) (record {
       faults = search rules;
       text = stops_all (lines_are g at.After-line_for-line) c.in_err-say_if_any.ensures;
       reads = λ bytes k.

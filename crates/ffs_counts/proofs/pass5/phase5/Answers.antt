@@ -1,4 +1,4 @@
-use Rattle.std.proofs.{Common.{◌≡◌, ◌∙◌, ◌+◌, ◌++◌, [], ap, arith, map, refl}, lemmas.Result.err_from_is_err_and}
+use Rattle.std.proofs.Common.{◌≡◌, ◌∙◌, ◌+◌, ◌++◌, [], ap, arith, map, refl}
 use Rattle.ffs_volume.specs.{declared.BlockMessage.TheVariants.FreeCounts, Groups.GroupCheck.AlreadyReported}
 use Rattle.ffs_volume.specs.{Groups.GroupCheck.{reported_once, unless}, Messages.Kinds.of_blocks}
 use Rattle.ffs_groups.specs.{Check.lines_of, Inodes.class_in}
@@ -8,9 +8,9 @@ use Rattle.ffs_report.proofs.Reporting.{heading_alone, heading_then, stops_headi
 use Rattle.ffs_workspace.specs.Found.{WithBlockCheck}
 use Rattle.ffs_counts.{specs.Once.{reported_of, reported_after}, proofs.GroupText.{counts_held, free_of, groups_begin}}
 use Rattle.ffs_counts.proofs.GroupText.{groups_go_on, groups_end, lines_after, totals_next, totals_right, up_next}
-use Rattle.ffs_counts.proofs.{GroupReads.{reads_next, records_next}, Holding.held_on}
+use Rattle.ffs_counts.proofs.{GroupReads.reads_next, Holding.held_on}
 use Rattle.ffs_counts.proofs.GroupsBelow.{before_next, group_held, once_next}
-use Rattle.ffs_volume.specs.{Blocks.Owners.owners_of, Directories.Volumes.class_at}
+use Rattle.ffs_volume.{specs.{Blocks.Owners.owners_of, Directories.Volumes.class_at}, proofs.Results.fails_with}
 use Rattle.ffs_volume.specs.Groups.GroupCheck.{group_lines, is_free_of_kept}
 use Rattle.ffs_counts.proofs.SaidMore.{said_more}
 use Rattle.ffs_counts.proofs.pass5.phase5.Goals.{After-agree_with-right, In_ok-found}
@@ -57,8 +57,7 @@ ended g c bytes k = grind (arith, groups_end, totals_right)
 
 pub returns-in_err-say-clause-text : goal.returns-in_err-say-clause-text
 returns-in_err-say-clause-text g c =
-    let p = err_from_is_err_and c.from_residual.result c.from_residual.ensures.1 in
-    rw (p.1, p.2) (stops_heading c.in_err-say.ensures.said)
+    rw (fails_with _ c.from_residual.ensures.1) (stops_heading c.in_err-say.ensures.said)
 
 pub returns-in_err-say-clause-leaves : goal.returns-in_err-say-clause-leaves
 returns-in_err-say-clause-leaves g c = c.forget_windows.ensures.only
@@ -75,24 +74,20 @@ loop-group-init g c =
 
 pub returns-in_err-found-clause-text : goal.returns-in_err-found-clause-text
 returns-in_err-found-clause-text g c =
-    let p = err_from_is_err_and c.from_residual-in_err-found.result c.from_residual-in_err-found.ensures.1 in
-    rw (p.1, p.2) (of_reads c.loop-group.invariant.said)
+    rw (fails_with _ c.from_residual-in_err-found.ensures.1) (of_reads c.loop-group.invariant.said)
 
 pub returns-in_err-found-clause-before_fault : goal.returns-in_err-found-clause-before_fault
-returns-in_err-found-clause-before_fault g c =
-    let p = err_from_is_err_and c.from_residual-in_err-found.result c.from_residual-in_err-found.ensures.1 in
-    rw (p.1, p.2) (record {
-      group = c.loop-group.group;
-      low = c.loop-group-test.true;
-      failed = c.in_err-found.ensures.found.sector;
-      said = c.loop-group.invariant.before;
-    })
+returns-in_err-found-clause-before_fault g c = rw (fails_with _ c.from_residual-in_err-found.ensures.1) (record {
+  group = c.loop-group.group;
+  low = c.loop-group-test.true;
+  failed = c.in_err-found.ensures.found.sector;
+  said = c.loop-group.invariant.before;
+})
 
 pub returns-in_err-say_group-clause-text : goal.returns-in_err-say_group-clause-text
 returns-in_err-say_group-clause-text g c =
-    let p = err_from_is_err_and c.from_residual-in_err-say_group.result c.from_residual-in_err-say_group.ensures.1 in
     let at = (goal.at.returns-in_err-say_group-clause-text g c).In_ok-found in
-    rw (p.1, p.2)
+    rw (fails_with _ c.from_residual-in_err-say_group.ensures.1)
     (of_stops _ _ _ _ _ _ _ _ c.loop-group.invariant.said (gone_on g at _ refl) c.in_err-say_group.ensures.said)
 
 pub loop-group-preserved : goal.loop-group-preserved
@@ -110,7 +105,7 @@ loop-group-preserved g c =
       };
       reads = reads_next n _ _ _ inv.reads c.in_ok-found.ensures.reads.counted
           (λ more. c.in_ok-found.ensures.reads.again (inv.records more));
-      records = records_next v _ n c.in_ok-found.ensures.found.records;
+      records = grind arith;
       up = up_next n c.loop-group.totals _ counts.result.summary inv.up c.add.ensures (omega (arith, counts.type_inv))
           (omega (arith, counts.type_inv)) (omega (arith, counts.type_inv)) (omega (arith, counts.type_inv));
       totals = totals_next v (free_of v w) (class_in w.kinds.items) n c.loop-group.totals _ _ inv.totals c.add.ensures
@@ -130,9 +125,9 @@ loop-group-preserved g c =
 
 pub returns-in_err-say_unless-clause-text : goal.returns-in_err-say_unless-clause-text
 returns-in_err-say_unless-clause-text g c =
-    let p = err_from_is_err_and c.from_residual-in_err-say_unless.result c.from_residual-in_err-say_unless.ensures.1 in
     let at = (goal.at.returns-in_err-say_unless-clause-text g c).After-agree_with-right in
-    rw (p.1, p.2) (of_stops _ _ (λ bytes. []) _ _ _ _ _ c.loop-group.invariant.said (ended g at)
+    rw (fails_with _ c.from_residual-in_err-say_unless.ensures.1)
+    (of_stops _ _ (λ bytes. []) _ _ _ _ _ c.loop-group.invariant.said (ended g at)
     c.in_err-say_unless.ensures.said)
 
 pub returns-clause-text : goal.returns-clause-text

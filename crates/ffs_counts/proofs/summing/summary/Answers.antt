@@ -1,6 +1,5 @@
 use Rattle.std.proofs.Common.{◌≡◌, ◌∙◌, arith, ap, length, refl, rules, slice_index, Result, [], ◌∷◌}
-use Rattle.std.proofs.lemmas.Result.{err_from_is_err_and}
-use Rattle.ffs_volume.specs.Report.Whole.{file_count, claimed_count, summary_of}
+use Rattle.ffs_volume.{specs.Report.Whole.{file_count, claimed_count, summary_of}, proofs.Results.fails_with}
 use Rattle.ffs_maps.specs.Bits.{bits_of}
 use Rattle.ffs_image.specs.Known.{ForBytes}
 use Rattle.ffs_workspace.specs.Holds.{HoldsBlockCheck}
@@ -42,12 +41,10 @@ says g c said = record {
 }
 
 pub returns-in_err-say : goal.returns-in_err-say
-returns-in_err-say g c =
-    let p = err_from_is_err_and c.from_residual.result c.from_residual.ensures.1 in
-    rw (p.1, p.2) (record {
-      faults = λ device. refl;
-      text = says g (goal.at.returns-in_err-say g c).After-summary_line (rw c.summary_line.ensures at c.in_err-say.ensures.said);
-    })
+returns-in_err-say g c = rw (fails_with _ c.from_residual.ensures.1) (record {
+  faults = λ device. refl;
+  text = says g (goal.at.returns-in_err-say g c).After-summary_line (rw c.summary_line.ensures at c.in_err-say.ensures.said);
+})
 
 pub returns : goal.returns
 returns g c = record {

@@ -1,14 +1,16 @@
+use Rattle.ffs_maps.proofs.Masks.{run_outside}
+use Rattle.ffs_maps.proofs.Masks.{run_inside}
 use Rattle.std.proofs.Common.{◌≡◌, ◌∙◌, arith}
 use Rattle.ffs_volume.specs.Disk.Areas.{cgbase}
 use Rattle.ffs_maps.specs.Bits.{bits_of}
-use Rattle.ffs_maps.proofs.{Bits.bits_long, ReservedBits.{all_set, group_set}, Runs.{bases_end, none_before}}
+use Rattle.ffs_maps.proofs.{Bits.bits_long, ReservedBits.all_set, Runs.{bases_end, none_before}}
 use Rattle.ffs_maps.proofs.FragmentMap.set_reserved.Goals as goal
 
 pub loop-group-init : goal.loop-group-init
 loop-group-init c = grind (arith, none_before)
 
 pub loop-group-preserved : goal.loop-group-preserved
-loop-group-preserved c = grind (arith, group_set, bits_long)
+loop-group-preserved c = grind (arith, bits_long, run_outside, run_inside)
 
 pub returns : goal.returns
 returns c =

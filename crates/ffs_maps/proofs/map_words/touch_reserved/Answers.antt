@@ -1,8 +1,10 @@
+use Rattle.std.proofs.Common.{append_assoc}
+use Rattle.std.proofs.lemmas.List.FromFn.{map-range_with_len_more}
 use Rattle.std.proofs.Common.{◌-◌, ◌∙◌, ◌++◌, ℕ, arith, ap, length, refl, replicate, sym, vec_len}
 use Rattle.std.proofs.lemmas.{Bool.not-true, List.{length-append, length-replicate}}
 use Rattle.std.specs.Prelude.{Some}
 use Rattle.ffs_maps.specs.Words.{reserved_words}
-use Rattle.ffs_maps.proofs.Words.{reserved_more, reserved_on, zeros_of_stretch}
+use Rattle.ffs_maps.proofs.Words.{reserved_on, zeros_of_stretch}
 use Rattle.ffs_maps.proofs.map_words.touch_reserved.Goals as goal
 
 pub loop-len-preserved-then-len-next : goal.loop-len-preserved-then-len-next
@@ -39,4 +41,4 @@ loop-len-preserved-then-len-next c =
     }
 
 pub loop-len-preserved : goal.loop-len-preserved
-loop-len-preserved c = grind (arith, length-append, reserved_more)
+loop-len-preserved c = grind (arith, length-append, append_assoc, map-range_with_len_more)

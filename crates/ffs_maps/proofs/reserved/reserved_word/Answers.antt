@@ -1,22 +1,10 @@
 use Rattle.std.proofs.Common.{◌≡◌, ◌-◌, ◌+◌, ◌*◌, ◌≤◌, ◌<◌, ◌∙◌, ◌&&◌, ℕ, Bool, arith, cond, bit_or, inl, inr, ap, sym}
 use Rattle.std.proofs.lemmas.{Bool.{cases_lt}, Nat.Bits.bit_at_or}
 use Rattle.std.specs.{Int.bit_at, Prelude.Some}
-use Rattle.ffs_volume.specs.Disk.Areas.{is_reserved}
-use Rattle.ffs_volume.specs.declared.Layout.{Layout}
-use Rattle.ffs_maps.specs.Reserved.{IsStretch, is_between}
-use Rattle.ffs_maps.specs.declared.reserved.Stretch.{Stretch}
+use Rattle.ffs_maps.specs.Reserved.{is_between}
 use Rattle.ffs_maps.proofs.Words.{reserved_from_bits}
 use Rattle.ffs_maps.proofs.Runs.{none_past_size}
 use Rattle.ffs_maps.proofs.reserved.reserved_word.Goals as goal
-
--- the bits of a stretch are added
-more_bits : (v : Layout) (s : Stretch) (start fragment next word bits k : ℕ) → IsStretch v fragment s → start ≤ fragment →
-    fragment < next → next ≤ s.end → k < next - start →
-    ((k : ℕ) → k < fragment - start → bit_at word k ≡ cond (is_reserved v (start + k)) 1 0) →
-    ((k : ℕ) → fragment - start ≤ k → bit_at word k ≡ 0) →
-    ((k : ℕ) → bit_at bits k ≡ cond (s.reserved && is_between (fragment - start) (next - start) k) 1 0) →
-    bit_at (bit_or word bits) k ≡ cond (is_reserved v (start + k)) 1 0
-more_bits v s start fragment next word bits k h from_ some within inside low high more = grind (arith, bit_at_or)
 
 -- and no others
 none_above : (b : Bool) (start end word bits k : ℕ) → start ≤ end → end ≤ k → bit_at word k ≡ 0 →
@@ -32,8 +20,7 @@ loop-fragment-preserved c =
     let next = c.min-next.result in
     let on : fragment < next = omega (arith, c.min-next.ensures, s.ensures.some, c.loop-fragment-test.true) in
     record {
-      low = λ k h. more_bits v s.result (64 * c.args.index) fragment next c.loop-fragment.word _ k s.ensures inv.from on
-          (omega (arith, c.min-next.ensures)) h inv.low inv.high c.bits_between-word.ensures;
+      low = λ k h. grind (arith, bit_at_or);
       high = λ k h. none_above s.result.reserved (fragment - 64 * c.args.index) (next - 64 * c.args.index)
           c.loop-fragment.word c.bits_between-word.result k (omega (arith, on)) h (inv.high k (omega (arith, h, on)))
           (c.bits_between-word.ensures k);

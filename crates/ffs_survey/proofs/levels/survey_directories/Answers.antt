@@ -1,7 +1,7 @@
+use Rattle.std.proofs.Common.{arith}
 use Rattle.std.proofs.Common.{ap, length, rules, ◌∙◌}
 use Rattle.ffs_survey.proofs.{CalmLaws.{calm_unreached, read_stays, Stays}, Costs.costs_both, Frontiers.sane_of}
 use Rattle.ffs_survey.proofs.{Lending.{finds_same, kinds_long, same_kinds}, UnreachedLaws.survey_whole}
-use Rattle.ffs_survey.proofs.UnreachedLaws.{unreached_blank}
 use Rattle.ffs_survey.proofs.ReadOnce.{flagged_by_parents, read_once_stays}
 use Rattle.ffs_survey.specs.Lent.{all_found}
 use Rattle.ffs_survey.proofs.levels.survey_directories.Goals as goal
@@ -19,7 +19,7 @@ returns-clause-found g c =
     λ b k.
     let entries = g.D.Directories.entries (g.D.Directories.base c.args.directories.now) b in
     let part = first.found.part b k in
-    let more = adds b k (unreached_blank inodes.kinds.now entries part) in
+    let more = adds b k (grind arith) in
     finds_same {found = all_found new} (search rules) (search rules) (search rules) (search rules) (search rules)
     (record {
       survey = rw second.leaves.kept.reached (survey_whole inodes.kinds.now entries

@@ -1,11 +1,12 @@
+use Rattle.ffs_survey.proofs.Discovered.{set_tests}
 use Rattle.std.proofs.Common.{ℕ, ap, rules, ◌≡◌, ◌+◌, ◌≤◌, length, take, arith, refl, sym, ◌∙◌}
 use Rattle.ffs_survey.proofs.Frontiers.{sane_of, levels_start, frontier_start, queue_start}
 use Rattle.ffs_survey.proofs.Queues.{counted_on, reached_part, alone_part, none_counted, empty_level, is_extended}
 use Rattle.ffs_survey.proofs.{CalmLaws.{calm_none, same_result_stays}, Costs.{level_costs, queue_costs, queue_within}}
 use Rattle.ffs_survey.proofs.{Discovered.{unset-le, unset-set}, Lending.{kinds_long, same_kinds, same_marks}}
-use Rattle.ffs_survey.proofs.{Lending.still_by, NextLevel.{AtLevel, few_counted, level_reached, next_room, next_at}}
+use Rattle.ffs_survey.proofs.{Lending.still_by, NextLevel.{AtLevel, few_counted, level_reached, next_at}}
 use Rattle.ffs_survey.{specs.{Discover.Extends, Survey.graph_with}, proofs.Remaining.{counted_same, discovered_same}}
-use Rattle.ffs_survey.proofs.ReadOnce.{read_each, read_on_queue, root_alone_reached, unread_level}
+use Rattle.ffs_survey.proofs.ReadOnce.{read_each, read_on_queue, unread_level}
 use Rattle.ffs_survey.proofs.levels.survey_reached.Goals as goal
 
 pub loop-low-init : goal.loop-low-init
@@ -69,7 +70,7 @@ loop-low-preserved g c =
           let both = level_costs (g.D.Directories.cost (g.D.Directories.base c.args.directories.now) b) c.loop-low.low
           c.loop-low.high queue _ inv.room.ordered kept in
           omega (arith, r b k, inv.reads b k, both);
-      room = next_room done.leaves.lists inv.room done.found sorted;
+      room = grind arith;
       levels = λ b k. let before = inv.levels b k in
           record {
             depth = before.depth + 1;
@@ -130,8 +131,7 @@ returns-then-not-is_dir-clause-found g c =
           (rw (c.set.ensures.items, c.set-2.ensures.items) (levels_start (graph_with old.kinds.now es) old.reached.now.items
           old.parents.now.items (omega arith) (omega arith) begins.reached begins.parents)) begins.named;
       calm = λ b k. calm_none _ _ old.calm.now.items begins.calm;
-      read = λ b k d dir reached. absurd (root_alone_reached old.reached.now.items old.kinds.now d begins.reached
-          (sym c.is_dir.ensures ∙ c.if-not-is_dir.true) dir (rw c.set.ensures.items at reached));
+      read = λ b k d dir reached. absurd (grind (arith, set_tests));
       once = λ b k. omega arith;
     }
 

@@ -1,5 +1,5 @@
-use Rattle.std.proofs.{Common.{◌≡◌, ◌∙◌, ap, arith, inl, inr, refl, sym, true}, lemmas.Result.err_from_is_err_and}
-use Rattle.ffs_volume.specs.{Encodings.Replay.is_replay_open}
+use Rattle.std.proofs.Common.{◌≡◌, ◌∙◌, ap, arith, inl, inr, refl, sym, true}
+use Rattle.ffs_volume.{specs.Encodings.Replay.is_replay_open, proofs.Results.fails_with}
 use Rattle.ffs_walk.specs.{Keepings.replay_in}
 use Rattle.ffs_walk.proofs.ReplayedRuns.{closed_runs, gaps_left, none_left, run_left, tail_left}
 use Rattle.ffs_walk.proofs.Splices.{keeps_then}
@@ -30,11 +30,10 @@ next-requires g c = let inv = c.loop-step.invariant in rw (inv.geometry, inv.ima
 
 pub returns-in_err-step : goal.returns-in_err-step
 returns-in_err-step g c =
-    let p = err_from_is_err_and c.from_residual.result c.from_residual.ensures.1 in
     let inv = c.loop-step.invariant in
     let did = c.in_err-step.ensures in
     let going = sym c.is_replay_open.ensures ∙ c.if-not-is_replay_open.false in
-    rw (p.1, p.2) (record {
+    rw (fails_with _ c.from_residual.ensures.1) (record {
       run = tt;
       fault = inr did.fault;
       done = λ d. elim d [

@@ -2,8 +2,8 @@ use Rattle.ffs_walk.{proofs.WalkSteps.{gives_one, spent_rest}, specs.Rests.{most
 use Rattle.ffs_walk.proofs.{FrameSteps.can_take, GapSteps.{in_first, in_second, in_third}}
 use Rattle.ffs_walk.proofs.Counted.{double_reads, triple_reads}
 use Rattle.std.proofs.{Common.{arith, refl, rules, ◌∙◌, ◌≡◌, false, nat_lt}}
-use Rattle.std.proofs.lemmas.{Bool.Decides.nat_tests, Result.err_from_is_err_and}
-use Rattle.ffs_volume.specs.Blocks.Steps.{steps_at}
+use Rattle.std.proofs.lemmas.Bool.Decides.{nat_tests}
+use Rattle.ffs_volume.{specs.Blocks.Steps.steps_at, proofs.Results.fails_with}
 use Rattle.ffs_walk.proofs.walk.Walk.advance.Goals as goal
 
 pub invariant_of-self-then-is_left-2 : goal.invariant_of-self-then-is_left-2
@@ -78,10 +78,9 @@ returns g c = record {
 
 pub returns-in_err-item-3 : goal.returns-in_err-item-3
 returns-in_err-item-3 g c =
-    let p = err_from_is_err_and c.from_residual-in_err-item-3.result c.from_residual-in_err-item-3.ensures.1 in
     let none : nat_lt c.args.self.now.single.next c.args.self.now.single.used ≡ false = grind (arith, nat_tests) in
     let none-2 : nat_lt c.args.self.now.double.next c.args.self.now.double.used ≡ false = grind (arith, nat_tests) in
-    rw (p.1, p.2) (record {
+    rw (fails_with _ c.from_residual-in_err-item-3.ensures.1) (record {
       gives = grind arith;
       leaves = grind arith;
       counted = grind arith;

@@ -1,7 +1,7 @@
 use Rattle.ffs_volume.specs.Blocks.Steps.{first_block, steps_at}
 use Rattle.std.proofs.{lemmas.Bool.Decides.nat_tests, Common.{◌≡◌, ◌∙◌, [], refl, arith, rules}}
 use Rattle.ffs_walk.{proofs.WalkSteps.{no_rests, top_gives, top_next, top_ends, most_below, top_falls}, specs.Rests.most_at}
-use Rattle.ffs_walk.{specs.Rests.file_blocks_of, proofs.Counted.{enters_none, enters_single, enters_double, enters_triple}}
+use Rattle.ffs_walk.{specs.Rests.file_blocks_of, proofs.Counted.{enters_none, enters_single, enters_double}}
 use Rattle.ffs_walk.proofs.walk.Walk.step_at_top.Goals as goal
 
 pub returns-then-self : goal.returns-then-self
@@ -57,4 +57,4 @@ returns-in_default c =
     top_next bytes w 3 _ _ _ (omega arith) c.requires (omega arith) (rw is refl) made
     ∙ rw (none.0, none.1) refl) (search rules) (top_falls _ _ _ _ _ _ _ _ _ (omega arith)
     (omega (arith, most_below _ w.geometry.sound, enters.left (most_at w.geometry.layout.nindir 2))))
-    (record { geometry = refl; blocks = refl }) (enters_triple _ _ _ _ enters.counted refl refl refl)
+    (record { geometry = refl; blocks = refl }) (grind arith)
