@@ -6,7 +6,7 @@ use Rattle.ffs_image.specs.Known.{ForBytes}
 use Rattle.ffs_report.{proofs.Reporting.reports_knowing, specs.declared.fault.RunFault.{RunFault, TheVariants.{Out, Read}}}
 use Rattle.ffs_volume.specs.Messages.Kinds.{Message}
 use Rattle.ffs_claims.specs.{Moments.ClaimMoment, Phases.WithNotes, Reporting.ClearsAsSaid}
-use Rattle.ffs_claims.proofs.{Clearing.clears_ended, Rescanned.text_noted, pass1b.phase1b.Goals.After-is_spent}
+use Rattle.ffs_claims.proofs.{BeforeFaults.{dups_knowing, fails_on}, Clearing.clears_ended, Rescanned.text_noted, pass1b.phase1b.Goals.After-is_spent}
 use Rattle.ffs_claims.proofs.pass1b.phase1b.Given as given
 use Rattle.ffs_claims.proofs.pass1b.phase1b.Goals as goal
 
@@ -113,3 +113,9 @@ returns-clause-reads g c = grind arith
 
 pub returns-clause-ready : goal.returns-clause-ready
 returns-clause-ready g c = grind arith
+
+pub returns-clause-before_fault : goal.returns-clause-before_fault
+returns-clause-before_fault g c = fails_on c.phase1b_unlimited-scanned.result
+    (λ sector below. dups_knowing _ _ _ _ (noted g (goal.at.returns-clause-before_fault g c).After-is_spent)
+    (grind arith) below)
+    c.phase1b_unlimited-scanned.ensures.before_fault
