@@ -104,10 +104,9 @@ fn phase1b_unlimited<I: Image, W: Output>(
     ensures reads { Phase1bReadsUnlimited geometry.now.layout (I.device image.old) workspace.old
         workspace.new (I.reads image.old) (I.reads image.new) }
     ensures stays { Phase1bKeeps workspace.old workspace.new }
-    ensures before_fault { FailsIn (λ sector. DupsSaidBelow
-        (WithNotes geometry.now.layout (I.device image.old) workspace.old) geometry.now.layout
-        (bits_of workspace.old.duplicates) (progress W.sink report.old)
-        (progress W.sink report.new) (I.reads image.old) (I.reads image.new)) result }
+    ensures before_fault { FailsIn (λ sector. DupsSaidBelow geometry.now.layout
+        (phase_moment I.Image W.Output image.old workspace.old report.old)
+        (phase_moment I.Image W.Output image.new workspace.new report.new)) result }
     ensures ready { IsReady geometry.now.layout (I.device image.new) workspace.new }
 {
     workspace.forget_windows();
@@ -167,10 +166,9 @@ pub fn phase1b<I: Image, W: Output>(
 
     // Where a read failed, all messages of the inodes below one were said, and no more was read
     // than these inodes and that one ask for.
-    ensures before_fault { FailsIn (λ sector. DupsSaidBelow
-        (WithNotes geometry.now.layout (I.device image.old) workspace.old) geometry.now.layout
-        (bits_of workspace.old.duplicates) (progress W.sink report.old)
-        (progress W.sink report.new) (I.reads image.old) (I.reads image.new)) result }
+    ensures before_fault { FailsIn (λ sector. DupsSaidBelow geometry.now.layout
+        (phase_moment I.Image W.Output image.old workspace.old report.old)
+        (phase_moment I.Image W.Output image.new workspace.new report.new)) result }
     ensures ready { IsReady geometry.now.layout (I.device image.new) workspace.new }
 {
     let mut limited = LimitedImage::new(image, sweep_reads(geometry));

@@ -282,7 +282,7 @@ returns-in_err-claim_inode-clause-before_fault g c =
     let inv = c.loop-number.invariant in
     let n = c.loop-number.number in
     let contents = ap (λ d. d.contents) inv.device in
-    rw (p.1, p.2) (said_below (Unit {0}) (Unit {0}) _ _ v _ _ (lines_from_inode v) _ _ _ _ _ n
+    rw (p.1, p.2) (said_below (Unit {0}) (Unit {0}) _ _ v _ _ (lines_from_inode v) _ _ _ n
     c.in_err-claim_inode.field-0.0 (omega arith) (of_same inv.said (λ bytes k. rw (inv.claims bytes k) refl))
     c.in_err-claim_inode.ensures.claims.text
     (λ bytes k. read_failed_at c.args.geometry.now.sound inv.low (omega arith) (inv.claims bytes k)

@@ -1,4 +1,4 @@
-use Rattle.std.proofs.{Common.{◌≡◌, ◌≤◌, ◌∙◌, ℕ, false, List, [], ap, arith, Result, Ok, Err}}
+use Rattle.std.proofs.{Common.{◌≡◌, ◌≤◌, ◌∙◌, ℕ, false, List, [], ap, arith, refl, Result, Ok, Err}}
 use Rattle.ffs_image.specs.Device.{Device}
 use Rattle.ffs_volume.{proofs.RunBounds.runs_bounded, specs.Report.Whole.run_count}
 use Rattle.ffs_report.specs.{PhaseOutcome.{HeadingFirst, ImageAfter, PhaseReports, SaidOf}, Progress.Progress}
@@ -117,5 +117,5 @@ returns-clause-ready g c = grind arith
 pub returns-clause-before_fault : goal.returns-clause-before_fault
 returns-clause-before_fault g c = fails_on c.phase1b_unlimited-scanned.result
     (λ sector below. dups_knowing _ _ _ _ (noted g (goal.at.returns-clause-before_fault g c).After-is_spent)
-    (grind arith) below)
+    refl refl refl (grind arith) below)
     c.phase1b_unlimited-scanned.ensures.before_fault

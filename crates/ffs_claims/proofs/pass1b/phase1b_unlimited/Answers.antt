@@ -306,15 +306,14 @@ returns-in_err-rewalk_inode-clause-before_fault g c =
     let inv = c.loop-number.invariant in
     let n = c.loop-number.number in
     let d = bits_of c.loop-number.workspace.duplicates in
+    let last : n < inodes_of v = omega arith in
     let fault : Result (Unit {0}) RunFault = Err c.in_err-rewalk_inode.field-0.0 in
-    let contents = ap (λ d. d.contents) inv.device in
-    let noted : ForBytes (WithNotes v (g.I.Image.device c.args.image.now) c.args.workspace.now)
-    (λ bytes. IsNoted v bytes c.loop-number.workspace.notes.items n) = λ bytes k.
-    is_noted sound inv.low (omega arith) inv.claims k.1 in
+    let image = ap (λ d. d.contents) inv.device in
     let did = c.in_err-rewalk_inode.ensures in
     rw (p.1, p.2) (fails_on fault (λ sector below. record { left = d; below = below })
-    (said_below (Unit {0}) (Unit {0}) _ _ v _ _ (dups_from_inode d v) _ _ _ _ _ n c.in_err-rewalk_inode.field-0.0
-    (omega arith) inv.said did.walks.text
-    (λ bytes k. read_failed_at sound inv.low (omega arith) refl
-    (λ held. indirect_noted _ _ (noted bytes k) (did.by_block.known held bytes (contents ∙ k.0)))
-    (indirect_noted _ _ (noted bytes k) (did.walks.known bytes (contents ∙ k.0))) (inv.known bytes k))))
+    (said_below (Unit {0}) (Unit {0}) _ _ v _ _ (dups_from_inode d v) _ _ _ n c.in_err-rewalk_inode.field-0.0 last
+    inv.said did.walks.text (λ bytes k.
+    let noted = is_noted sound inv.low last inv.claims k.1 in
+    read_failed_at sound inv.low last refl
+    (λ held. indirect_noted _ _ noted (did.by_block.known held bytes (image ∙ k.0)))
+    (indirect_noted _ _ noted (did.walks.known bytes (image ∙ k.0))) (inv.known bytes k))))
