@@ -1,7 +1,7 @@
 -- How many indirect blocks are seen, step by step and inode by inode, and how often phase 1 reads an
 -- image that gives its bytes.
 use Rattle.std.proofs.Common.{◌≡◌, ℕ, zero, suc, ◌+◌, ◌-◌, ◌<◌, ◌≤◌, true, List, ◌∷◌, ◌++◌, replicate}
-use Rattle.std.{proofs.{Common.{arith, refl, ap, ◌∙◌}}, specs.Int.div_ceil}
+use Rattle.std.{proofs.{Common.{arith, refl, ap, sym, ◌∙◌}}, specs.Int.div_ceil}
 use Rattle.ffs_volume.specs.Blocks.Claims.{Claims, after_owner, after_step, at_next_inode, is_open, no_claims}
 use Rattle.ffs_volume.specs.Blocks.{Inodes.{class_of, inode_of, inodes_of}, Owners.{owner_of, owners_of}}
 use Rattle.ffs_volume.specs.Costs.VolumeReads.{indirect_count, indirect_in_owners, indirect_in_steps, seen_indirect}
@@ -14,7 +14,8 @@ use Rattle.ffs_claims.proofs.{Inodes.free_steps, FreeInodes.{AreFree, free_claim
 use Rattle.ffs_claims.proofs.TableReads.{BlocksRead, blocks_all, blocks_failed}
 use Rattle.ffs_claims.proofs.TableReads.{blocks_failed_until, blocks_later, blocks_next}
 use Rattle.ffs_claims.proofs.TableReads.{blocks_until}
-use Rattle.ffs_claims.specs.{Claiming.ReadsIndirect, Lines.owners_from}
+use Rattle.ffs_claims.specs.{BeforeFault.reads_to_inode, Claiming.ReadsIndirect, Lines.owners_from}
+use Rattle.ffs_volume.{proofs.OwnerLaws.before_next, specs.Blocks.KeptSteps.claims_before}
 
 -- the word of an indirect block of data is none
 pub word_unseen : (s : Claims) (frag address block : ℕ) → seen_indirect s (word_step frag address block) ≡ 0
@@ -131,9 +132,23 @@ module _ {v : Layout} {bytes : List ℕ} {s : Claims} {n reads now : ℕ} {t : T
   pub read_failed_until : {now' m : ℕ} → IsAcceptedLayout v → n < inodes_of v → n + 1 ≤ m →
       (HoldsInode t n → ReadsIndirect v s (owner_of v bytes n) now now') →
       ReadsIndirect v s (owner_of v bytes n) (now + 1) now' → VolumeRead v bytes s n reads now t →
-      now' ≤ reads + div_ceil m v.inopb + indirect_count v bytes
+      now' + indirect_in_owners v (after_owner v s (owner_of v bytes n)) (owners_from v bytes (n + 1))
+      ≤ reads + div_ceil m v.inopb + indirect_count v bytes
   read_failed_until {now'} g low high again few r =
       let more = indirect_in_steps v (at_next_inode s) (owner_of v bytes n).steps in
       let all = blocks_failed_until {now' = now'} (r.seen + more) g high (λ h. omega (arith, again h)) (omega (arith, few))
       r.read in
       omega (arith, all, r.rest, indirect_next v bytes s (after_owner v s (owner_of v bytes n)) n low refl)
+
+  -- it asked for no more than the inodes up to n
+  pub read_failed_at : {now' : ℕ} → IsAcceptedLayout v → 2 ≤ n → n < inodes_of v → s ≡ claims_before v bytes n →
+      (HoldsInode t n → ReadsIndirect v s (owner_of v bytes n) now now') →
+      ReadsIndirect v s (owner_of v bytes n) (now + 1) now' → VolumeRead v bytes s n reads now t →
+      now' ≤ reads + reads_to_inode v n bytes
+  read_failed_at {now'} g low high e again few r =
+      let next = before_next v bytes n low ∙ ap (λ t. after_owner v t (owner_of v bytes n)) (sym e) in
+      omega (
+        arith,
+        read_failed_until {now' = now'} {m = n + 1} g high (omega arith) again few r,
+        ap (λ t. indirect_in_owners v t (owners_from v bytes (n + 1))) next,
+      )

@@ -5,6 +5,7 @@
 --   StepsContinue  offers, steps and inodes, one after another
 --   Numbers        the numbers of inodes, one after another
 --   Reserved       the bits of the reserved fragments
+--   BeforeFaults   what was said where a read failed
 --
 -- Phase 1:
 --   Inodes         how an inode's part continues, and how many Runs it is seen to have
@@ -41,3 +42,4 @@ pub mod FreeInodes
 pub mod SeriesClaims
 pub mod IndirectReads
 pub mod FirstOffers
+pub mod BeforeFaults

@@ -1,10 +1,11 @@
 -- What the contracts of phases 1 and 1b cite, in the order to read it: each file rests on those before it. Who only
--- wants to know what the phases promise begins at the end, with `Phases`:
+-- wants to know what the phases promise begins at the end, with `Phases` and `BeforeFault`:
 --
---   phase1     IsLeftByPhase1, or Phase1FoundInPart where it fails; Phase1Reads; Phase1Keeps, what stays as it was
+--   phase1     IsLeftByPhase1, or Phase1FoundInPart where it fails; Phase1Reads; Phase1Keeps, what stays as it was;
+--              SaidBelow (in `BeforeFault`), what was said where a read failed
 --   phase1b    IsLeftByPhase1b; GoesOverOffers, also where it fails; Phase1bReads; Phase1bKeeps (in the file
 --              `Reporting`), what stays; phase1b_messages_for, what a second call says; ClearsAsSaid (in
---              `Reporting`), how many fragments are left for that
+--              `Reporting`), how many fragments are left for that; DupsSaidBelow as SaidBelow
 --
 -- For both phases: `Moments` has the values that calls change, `Lines` the lines as messages of a report, `Leaves`
 -- what calls need of a workspace and leave of it as it was, `Bounds` the bounds on counts there.
@@ -29,3 +30,4 @@ pub mod FreeInodes
 pub mod Reporting
 pub mod RescanRuns
 pub mod Phases
+pub mod BeforeFault

@@ -9,6 +9,8 @@ ghost use Rattle.ffs_volume.specs.Messages.Kinds as messages;
 ghost use Rattle.ffs_workspace.specs.{Found.WithPhase1, Ready.IsReady};
 ghost use Rattle.ffs_claims.specs.Moments.{after_one_read, claim_moment, phase_moment};
 ghost use Rattle.ffs_claims.specs.Phases.{GoesOverOffers, IsLeftByPhase1b, Phase1bReads, Phase1bReadsUnlimited};
+ghost use Rattle.ffs_report.specs.Fails.{FailsIn};
+ghost use Rattle.ffs_claims.specs.BeforeFault.{DupsSaidBelow};
 ghost use Rattle.ffs_claims.specs.Phases.{WithNotes, phase1b_messages_for};
 ghost use Rattle.ffs_claims.specs.Reporting.{CanRewalk, ClearsAsSaid, Phase1bKeeps};
 ghost use Rattle.ffs_maps.specs.Bits.{bits_of};
@@ -102,6 +104,9 @@ fn phase1b_unlimited<I: Image, W: Output>(
     ensures reads { Phase1bReadsUnlimited geometry.now.layout (I.device image.old) workspace.old
         workspace.new (I.reads image.old) (I.reads image.new) }
     ensures stays { Phase1bKeeps workspace.old workspace.new }
+    ensures before_fault { FailsIn (λ sector. DupsSaidBelow geometry.now.layout
+        (phase_moment I.Image W.Output image.old workspace.old report.old)
+        (phase_moment I.Image W.Output image.new workspace.new report.new)) result }
     ensures ready { IsReady geometry.now.layout (I.device image.new) workspace.new }
 {
     workspace.forget_windows();
@@ -158,6 +163,12 @@ pub fn phase1b<I: Image, W: Output>(
     ensures reads { Phase1bReads geometry.now.layout (I.device image.old) workspace.old
         workspace.new (I.reads image.old) (I.reads image.new) }
     ensures stays { Phase1bKeeps workspace.old workspace.new }
+
+    // Where a read failed, all messages of the inodes below one were said, and no more was read
+    // than these inodes and that one ask for.
+    ensures before_fault { FailsIn (λ sector. DupsSaidBelow geometry.now.layout
+        (phase_moment I.Image W.Output image.old workspace.old report.old)
+        (phase_moment I.Image W.Output image.new workspace.new report.new)) result }
     ensures ready { IsReady geometry.now.layout (I.device image.new) workspace.new }
 {
     let mut limited = LimitedImage::new(image, sweep_reads(geometry));

@@ -17,7 +17,8 @@ use Rattle.ffs_claims.proofs.{Inodes.used_below, Numbers.{found_begins, found_cu
 use Rattle.ffs_claims.proofs.{Numbers.{before_first, before_end, lines_next}, TableReads.{blocks_all, blocks_failed}}
 use Rattle.ffs_claims.proofs.{TableReads.{blocks_later, blocks_next}, IndirectReads.{VolumeRead, read_all}}
 use Rattle.ffs_claims.proofs.{IndirectReads.{read_begins, read_failed, read_later, read_next}, FreeInodes.AreFree}
-use Rattle.ffs_claims.proofs.Rescanned.{runs_most}
+use Rattle.ffs_claims.proofs.{BeforeFaults.said_below, IndirectReads.read_failed_at, Rescanned.runs_most}
+use Rattle.ffs_claims.specs.BeforeFault.{lines_from_inode}
 use Rattle.ffs_claims.proofs.FreeInodes.{StandsAt, free_by_bytes, has_inodes, lines_later, stands_later}
 use Rattle.ffs_claims.proofs.pass1.phase1.Goals as goal
 
@@ -267,3 +268,18 @@ returns-clause-stays g c = let changes = c.loop-number.invariant.changes in reco
   changes = record { only = grind arith; used = changes.used; duplicates = changes.duplicates };
   has_dups = tt;
 }
+
+pub returns-in_err-claim_inode-clause-before_fault : goal.returns-in_err-claim_inode-clause-before_fault
+returns-in_err-claim_inode-clause-before_fault g c =
+    let from = c.from_residual-in_err-claim_inode in
+    let p = err_from_is_err_and from.result from.ensures.1 in
+    let v = c.args.geometry.now.layout in
+    let inv = c.loop-number.invariant in
+    let n = c.loop-number.number in
+    let contents = ap (λ d. d.contents) inv.device in
+    rw (p.1, p.2) (said_below (Unit {0}) (Unit {0}) _ _ v _ _ (lines_from_inode v) _ _ _ n
+    c.in_err-claim_inode.field-0.0 (omega arith) (of_same inv.said (λ bytes k. rw (inv.claims bytes k) refl))
+    c.in_err-claim_inode.ensures.claims.text
+    (λ bytes k. read_failed_at c.args.geometry.now.sound inv.low (omega arith) (inv.claims bytes k)
+    (λ held. c.claim_inode.ensures.by_block.known held bytes (contents ∙ k.0))
+    (c.claim_inode.ensures.claims.known bytes (contents ∙ k.0)) (inv.known bytes k)))

@@ -1,4 +1,4 @@
-use Rattle.std.proofs.{Common.{◌≡◌, ◌≤◌, ◌∙◌, ℕ, false, List, [], ap, arith, Result, Ok, Err}}
+use Rattle.std.proofs.{Common.{◌≡◌, ◌≤◌, ◌∙◌, ℕ, false, List, [], ap, arith, refl, Result, Ok, Err}}
 use Rattle.ffs_image.specs.Device.{Device}
 use Rattle.ffs_volume.{proofs.RunBounds.runs_bounded, specs.Report.Whole.run_count}
 use Rattle.ffs_report.specs.{PhaseOutcome.{HeadingFirst, ImageAfter, PhaseReports, SaidOf}, Progress.Progress}
@@ -6,7 +6,7 @@ use Rattle.ffs_image.specs.Known.{ForBytes}
 use Rattle.ffs_report.{proofs.Reporting.reports_knowing, specs.declared.fault.RunFault.{RunFault, TheVariants.{Out, Read}}}
 use Rattle.ffs_volume.specs.Messages.Kinds.{Message}
 use Rattle.ffs_claims.specs.{Moments.ClaimMoment, Phases.WithNotes, Reporting.ClearsAsSaid}
-use Rattle.ffs_claims.proofs.{Rescanned.text_noted, pass1b.phase1b.Goals.After-is_spent}
+use Rattle.ffs_claims.proofs.{BeforeFaults.{dups_knowing, fails_on}, Rescanned.text_noted, pass1b.phase1b.Goals.After-is_spent}
 use Rattle.ffs_claims.proofs.pass1b.phase1b.Given as given
 use Rattle.ffs_claims.proofs.pass1b.phase1b.Goals as goal
 
@@ -113,3 +113,9 @@ returns-clause-reads g c = grind arith
 
 pub returns-clause-ready : goal.returns-clause-ready
 returns-clause-ready g c = grind arith
+
+pub returns-clause-before_fault : goal.returns-clause-before_fault
+returns-clause-before_fault g c = fails_on c.phase1b_unlimited-rescanned.result
+    (λ sector below. dups_knowing _ _ _ _ (noted g (goal.at.returns-clause-before_fault g c).After-is_spent)
+    refl refl refl (grind arith) below)
+    c.phase1b_unlimited-rescanned.ensures.before_fault

@@ -22,7 +22,8 @@ use Rattle.ffs_claims.proofs.Rescanned.{runs_from, looked_on, looked_end, kept_n
 use Rattle.ffs_claims.proofs.{Rescanned.claims_hold, Rewalks.{runs_pay_all, runs_pay_then}}
 use Rattle.ffs_claims.proofs.IndirectReads.{read_all, read_begins, read_failed}
 use Rattle.ffs_claims.proofs.IndirectReads.{read_failed_until, read_next, read_until}
-use Rattle.ffs_claims.proofs.{Rescanned.indirect_noted}
+use Rattle.ffs_claims.proofs.{BeforeFaults.{fails_on, said_below}, IndirectReads.read_failed_at}
+use Rattle.ffs_claims.{proofs.Rescanned.indirect_noted, specs.BeforeFault.dups_from_inode}
 use Rattle.ffs_volume.proofs.{OwnerLaws.before_next, Sizes.some_inodes}
 use Rattle.ffs_claims.specs.{Lines.of_lines, Phases.{WithNotes, phase1b_messages_for}, RescanRuns.rescan_end}
 use Rattle.ffs_claims.proofs.pass1b.phase1b_unlimited.Goals as goal
@@ -148,9 +149,11 @@ returns-in_err-rewalk_inode-clause-reads g c =
           let d = bits_of c.loop-number.workspace.duplicates in
           let on = inodes_on v bytes notes n d (after_first d (offers_at v bytes notes n)) noted
           (some_left _ _ c.has_unreported_dups.ensures c.if-not-has_unreported_dups.false) refl in
-          read_failed_until c.args.geometry.now.sound last (omega (arith, on, inv.inodes bytes k))
+          let few = read_failed_until {now' = g.I.Image.reads c.rewalk_inode.new.image} {m = rescan_end v bytes}
+          c.args.geometry.now.sound last (omega (arith, on, inv.inodes bytes k))
           (λ held. indirect_noted _ _ noted (table.known held bytes (image ∙ k.0)))
-          (indirect_noted _ _ noted (did.known bytes (image ∙ k.0))) (inv.known bytes (k.0, k.1.notes));
+          (indirect_noted _ _ noted (did.known bytes (image ∙ k.0))) (inv.known bytes (k.0, k.1.notes)) in
+          omega (arith, few);
       none = λ e. absurd (some_left _ _ c.has_unreported_dups.ensures c.if-not-has_unreported_dups.false
           (none_to_clear inv.clears (forgot ∙ none_left (set_count (bits_of c.args.workspace.now.duplicates)) _ refl e)));
     }
@@ -246,6 +249,7 @@ returns-then-not-has_unreported_dups g c =
       clears = clears_after phase1b c.in_ok-say.ensures.said
           (ap (λ (w : Workspace). w.duplicates) c.forget_windows.ensures.only) inv.clears;
       stays = inv.claims;
+      before_fault = tt;
       ready = inv.ready.ready;
     }
 
@@ -281,8 +285,30 @@ returns-after-loop-number g c =
       clears = clears_after phase1b c.in_ok-say.ensures.said
           (ap (λ (w : Workspace). w.duplicates) c.forget_windows.ensures.only) inv.clears;
       stays = inv.claims;
+      before_fault = tt;
       ready = inv.ready.ready;
     }
 
 pub returns-in_err-rewalk_inode-clause-heading : goal.returns-in_err-rewalk_inode-clause-heading
 returns-in_err-rewalk_inode-clause-heading g c = grind (arith, err_from_is_err_and, heading_part)
+
+pub returns-in_err-rewalk_inode-clause-before_fault : goal.returns-in_err-rewalk_inode-clause-before_fault
+returns-in_err-rewalk_inode-clause-before_fault g c =
+    let from = c.from_residual-in_err-rewalk_inode in
+    let p = err_from_is_err_and from.result from.ensures.1 in
+    let v = c.args.geometry.now.layout in
+    let sound = c.args.geometry.now.sound in
+    let inv = c.loop-number.invariant in
+    let n = c.loop-number.number in
+    let d = bits_of c.loop-number.workspace.duplicates in
+    let last : n < inodes_of v = omega arith in
+    let fault : Result (Unit {0}) RunFault = Err c.in_err-rewalk_inode.field-0.0 in
+    let image = ap (λ d. d.contents) inv.device in
+    let did = c.in_err-rewalk_inode.ensures in
+    rw (p.1, p.2) (fails_on fault (λ sector below. record { left = d; below = below })
+    (said_below (Unit {0}) (Unit {0}) _ _ v _ _ (dups_from_inode d v) _ _ _ n c.in_err-rewalk_inode.field-0.0 last
+    inv.said did.walks.text (λ bytes k.
+    let noted = is_noted sound inv.low last inv.claims k.1 in
+    read_failed_at sound inv.low last refl
+    (λ held. indirect_noted _ _ noted (did.by_block.known held bytes (image ∙ k.0)))
+    (indirect_noted _ _ noted (did.walks.known bytes (image ∙ k.0))) (inv.known bytes k))))
