@@ -19,7 +19,7 @@ pub record MakesMap {E : Type 0} (old new : Account) (n : ℕ) (result : Result 
   pub asks : Asks old new (8 * div_ceil n 64) result
 
 -- the bits with `len` of them set, from an index on
-abbrev pub set_run : List Bool → (start zero : ℕ) → List Bool
+abbrev pub set_run : List Bool → (start len : ℕ) → List Bool
 set_run bits start zero = bits
 set_run bits start (suc len) = set_run (slice_set bits start true) (start + 1) len
 

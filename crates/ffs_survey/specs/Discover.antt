@@ -103,7 +103,7 @@ pub record LevelsKnown (g : Graph) (k : ℕ) (reached : List Bool) (parents queu
   pub queued : (x : ℕ) → occurrences x queue ≡ bit (bool_at reached x)
 
 -- how many entries refer to x, in those directories below n that `counts` picks
-unfoldable pub counted_by : (ℕ → Bool) → Graph → (x zero : ℕ) → ℕ
+unfoldable pub counted_by : (ℕ → Bool) → Graph → (x s : ℕ) → ℕ
 counted_by counts g x zero = 0
 counted_by counts g x (suc s) = counted_by counts g x s + (if counts s then counted_in g s x else 0)
 

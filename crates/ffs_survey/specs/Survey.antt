@@ -24,7 +24,7 @@ graph_with kinds entries = record { count = length kinds; is_dir = is_dir_at kin
 abbrev pub counted_in : Graph → (s x : ℕ) → ℕ
 counted_in g s x = if g.is_dir s then count_by (refers x) (g.entries s) else 0
 
-unfoldable pub counted_below : Graph → (x zero : ℕ) → ℕ
+unfoldable pub counted_below : Graph → (x s : ℕ) → ℕ
 counted_below g x zero = 0
 counted_below g x (suc s) = counted_below g x s + counted_in g s x
 

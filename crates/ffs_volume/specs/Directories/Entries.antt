@@ -105,7 +105,7 @@ pub record ChunkSource : Type 0 where
   pub image : List ℕ
   pub bsize : ℕ
   pub fsize : ℕ
-  pub taken : ℕ  -- how many bytes of the directory are read
+  pub read_bytes : ℕ  -- how many bytes of the directory are read
 
 -- the chunks of `len` fragments from `start` on, that are at `offset` of the file, as far as the
 -- directory is read
