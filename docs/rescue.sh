@@ -307,7 +307,7 @@ $left
 EOF
     done
     # Of a small file that a full disk doesn't take tsk_recover says nothing
-    [ ! -d "$2" ] || { probe=$(mktemp "$2/full.XXXXXX") && head -c 65536 /dev/zero >"$probe"; } 2>/dev/null ||
+    [ ! -d "$2" ] || { probe=$(mktemp "$2/full.XXXXXX") && head -c 65536 /dev/urandom >"$probe"; } 2>/dev/null ||
         complain "recover: the disk is full, so files in $2 may be empty or cut short" || status=1
     rm -f "${probe-}"
     exit $status

@@ -223,6 +223,21 @@ def exchanged(case):
     case.run("further exchange check", i=i, j=j)
 
 
+@damage("the addresses of two directories were exchanged")
+def addresses_exchanged(case):
+    volume, paths = case.volume, ("mail/in", "docs/pages")
+    first, second = (volume.find(path) for path in paths)
+    a, b = (volume.blocks(i)[0] for i in (first, second))
+    volume.put_inode(first, direct0=b)
+    volume.put_inode(second, direct0=a)
+    case.at_stake(*[path for path in case.tree if path.startswith(paths)])
+    i, j = (message["inode"] for message in case.report("BAD INODE NUMBER FOR '.'").of("BAD INODE NUMBER FOR '.'"))
+    f, g = (fragments_of(case.run("inode", i=k))[0] for k in (i, j))
+    case.run("further place address", i=i, k=0, f=g)
+    if case.run("place address check", i=j, k=0, f=f).status:
+        raise Wrong("it isn't consistent")
+
+
 @damage("the inodes of a directory and a file were exchanged")
 def exchanged_file(case):
     volume = case.volume

@@ -20,6 +20,12 @@ def mend(case, i, recipes, **values):
     return case.run(f"further place {recipes} check", i=i, **values)
 
 
+def overwrite(case, f):
+    """Writes text over a block."""
+    at, length = f * case.volume.layout.fsize, case.volume.layout.bsize
+    case.volume.image[at:at + length] = (b"All work and no play makes Jack a dull boy. " * length)[:length]
+
+
 def first_lost(case):
     """The first fragment that no file has."""
     return int(case.run("lost").split()[0])
@@ -534,10 +540,8 @@ def move_words(case, source, target, count, zero):
 
 @damage("the address of an indirect block became that of a free block that has text")
 def indirect_address_free(case):
-    volume, layout = case.volume, case.volume.layout
-    f = free_block(case)
-    volume.image[f * layout.fsize:f * layout.fsize + layout.bsize] = (b"All work and no play makes Jack a dull boy. " * layout.bsize)[:layout.bsize]
-    indirect_address(case, f)
+    overwrite(case, free_block(case))
+    indirect_address(case, free_block(case))
 
 
 @damage("the address of an indirect block became that of another file's block")
@@ -625,18 +629,13 @@ def double_one(case):
 @damage("a large file's indirect block was overwritten by text, and it has a double one")
 def large_overwritten(case):
     i, _ = double_of(case)
-    volume, layout = case.volume, case.volume.layout
-    at = volume.inode(i)["single"] * layout.fsize
-    volume.image[at:at + layout.bsize] = (b"All work and no play makes Jack a dull boy. " * layout.bsize)[:layout.bsize]
+    overwrite(case, case.volume.inode(i)["single"])
     case.report("EXCESSIVE BAD BLKS")
     f = fragments_of(case.run("inode", i=i))[12]
     case.run("list")
     case.refuses("further refill", b=f)
     case.run("further zeros keep", b=f)
     case.run("further list refill check", b=f)
-
-
-TEXT = b"All work and no play makes Jack a dull boy. " * 200
 
 
 @damage("an indirect block that the double indirect block of a large file names was overwritten by text")
@@ -659,12 +658,6 @@ def double_overwritten(case):
     case.check_again("INCORRECT BLOCK COUNT")
     rising = case.run("rising").split()
     case.run("further word check", b=b, k=0, f=rising[0])
-
-
-def overwrite(case, f):
-    """Writes text over a block."""
-    at, length = f * case.volume.layout.fsize, case.volume.layout.bsize
-    case.volume.image[at:at + length] = TEXT[:length]
 
 
 @damage("a file's indirect block was overwritten by that of a large file")
