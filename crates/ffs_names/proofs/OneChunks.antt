@@ -91,6 +91,7 @@ only_chunk_is : (v : Layout) (a : ℕ) (b : List ℕ) → IsAcceptedLayout v →
     → chunks_in v b (one_chunk_at a) 0 ≡ chunk_of v.order 0 (piece (a * v.fsize) 512 b) ∷ []
 only_chunk_is v a b g some inside = grind (arith, one_replayed)
 
+-- where nothing of the chunks is left, no read is, and none that was made is needed
 pub ended_reads : (b : List ℕ) (s : Bool) (c : Chunks) → IsEnded c → reads_by b s c ≡ 0
 ended_reads b s c e = grind (arith, at_most, over_runs, replay_in, top_unread, run_over)
 

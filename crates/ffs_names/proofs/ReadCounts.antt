@@ -8,6 +8,7 @@ use Rattle.ffs_walk.specs.{Counts.entered, Rests.IsAtTop, declared.window.Window
 use Rattle.ffs_names.specs.{Costs.{BeginsReads, HoldsRun, unread_run}, RunCursors.IsWhole}
 use Rattle.ffs_names.specs.declared.{chunks.Chunks.Chunks, run_cursor.RunCursor.RunCursor}
 
+-- the current Run is no read where it has no chunk left
 pub run_over : (cursor : RunCursor) → cursor.next ≡ cursor.count → unread_run cursor ≡ 0
 run_over cursor e = grind (arith, nat_tests)
 
@@ -15,6 +16,7 @@ run_over cursor e = grind (arith, nat_tests)
 pub run_passed : (n : ℕ) → if◌then◌else◌ {A = ℕ} ((n == 0) && nat_lt 0 n) 1 0 ≡ 0
 run_passed n = grind (arith, nat_tests)
 
+-- and a window needs no such Run
 pub over_held : (cursor : RunCursor) → cursor.next ≡ cursor.count → (w : Window) → HoldsRun w cursor
 over_held cursor over w = λ some left. absurd (omega (arith, over, left))
 
