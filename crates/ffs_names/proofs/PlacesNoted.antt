@@ -278,12 +278,12 @@ set_same f ws i word low same x = elim (cases_eq x i) [
 
 -- what the survey found is held, with places that are right, and the claims are
 pub survey_noted : {v : Layout} {b : List ℕ} {old new : Workspace} →
-    new ≡ record old { windows = new.windows; queue = new.queue } → HoldsSurvey v b old →
-    AreParts v b new.queue.items → HoldsSurvey v b new
+    new ≡ record old { windows = new.windows; words = new.words } → HoldsSurvey v b old →
+    AreParts v b new.words.items → HoldsSurvey v b new
 survey_noted e h right = grind arith
 
 pub claims_noted : {v : Layout} {b : List ℕ} {old new : Workspace} →
-    new ≡ record old { windows = new.windows; queue = new.queue } → HoldsBlockCheck v b old → HoldsBlockCheck v b new
+    new ≡ record old { windows = new.windows; words = new.words } → HoldsBlockCheck v b old → HoldsBlockCheck v b new
 claims_noted {v = v} {b = b} {old = old} e h = grind (arith, counts_same)
 
 -- what was read, where the directory of the next word isn't to be read any more

@@ -7,7 +7,7 @@ use Rattle.ffs_walk.proofs.{Areas.in_range-below, Ranges.range_step}
 use Rattle.ffs_names.specs.{RunCursors.cursor_chunks, declared.run_cursor.RunCursor.RunCursor}
 
 pub none_far : (v : Layout) (r : ChunkSource) (start len block : ℕ) → IsAcceptedLayout v → 2147483648 ≤ block →
-    r.taken ≤ 2147483648 → run_chunks r start len (block * v.bsize) ≡ []
+    r.read_bytes ≤ 2147483648 → run_chunks r start len (block * v.bsize) ≡ []
 none_far v r start len block g far few = grind (arith, mul-le-mul_left)
 
 -- a Run in range lies in the volume, and has a block's bytes at most
