@@ -66,6 +66,7 @@ pub whole_is_volume : (v : Layout) (image : List ℕ) → IsAcceptedLayout v →
 unfolding whole_volume
 whole_is_volume v image g = grind (arith, volume_is, steps_none)
 
+-- where the blocks are right, each inode is free, a file or a directory
 whole_number : (v : Layout) (image : List ℕ) → BlocksRight v (owners_of v image) → (x : ℕ) → is_inode_number v x ≡ true
     → is_right_class (class_of v (inode_of v image x)) ≡ true
 unfolding owners_of owner_of

@@ -251,7 +251,7 @@ pub record MarksLeaders (f : ℕ → Option ℕ) (n : ℕ) (walk_of : List ℕ) 
   pub known : (x : ℕ) → number_at walk_of x ≢ 0 → bool_at leader x ≡ is_leader_within f n x
   pub blank : (x : ℕ) → number_at walk_of x ≡ 0 → bool_at leader x ≡ false
 
--- a walk that found one
+-- a walk that found a cycle
 pub marks_found : {f : ℕ → Option ℕ} {n start mark found e : ℕ} {old new : List ℕ} (leader : List Bool) →
     e < length leader → Walked f start mark old new → FindsCycle f n old new found → IsLeastOn f n found e →
     MarksLeaders f n old leader → MarksLeaders f n new (set leader e true)

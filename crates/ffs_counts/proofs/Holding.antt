@@ -29,6 +29,7 @@ pub item_at : {X : Type 0} (list : Vec X Global) (i n : ℕ) (x d : X) → x ≡
     vec_len list ≡ n → x ≡ slice_index_or list.items i d
 item_at list i n x d e low len = get_or_read list.items i x (omega (arith, list.ok.0)) e d
 
+-- whether an inode is allocated, by the kind that a workspace holds
 allocated_is : (v : Layout) (b : List ℕ) (w : Workspace) (i : ℕ) → HoldsBlockCheck v b w →
     is_allocated_inode (volume_of v b) i ≡ is_allocated (class_of_kind (slice_index w.kinds.items i))
 allocated_is v b w i h = grind (arith, some_is)

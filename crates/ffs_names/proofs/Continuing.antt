@@ -5,7 +5,7 @@ use Rattle.ffs_volume.specs.declared.Step.{Step}
 use Rattle.ffs_layout.specs.declared.geometry.Geometry.{Geometry}
 use Rattle.ffs_walk.specs.{Windows.{CanWalk, KeepsBlocks}, declared.{blocks.Blocks.Blocks, window.Window.Window}}
 use Rattle.ffs_names.specs.{declared.chunks.Chunks.Chunks, Windows.{CanWalkDir, CanReadChunks}, Readings.Continues}
-use Rattle.ffs_names.specs.Readings.{ContinuesTo, CountsOn, IsSame}
+use Rattle.ffs_names.specs.Readings.{CountsOn, IsSame}
 
 pub no_more : (n : ℕ) → n ≤ n
 no_more n = omega arith
@@ -15,9 +15,6 @@ counts_here n = record { most = omega arith; all = λ h. refl }
 
 pub counts_more : {n m k : ℕ} → CountsOn n m → CountsOn m k → CountsOn n k
 counts_more h l = grind arith
-
-pub continues_here : (b : List ℕ) (c : Chunks) → ContinuesTo b c c
-continues_here b c = record { chunks = refl; runs = counts_here _; gap = refl }
 
 pub continues_more : {b : List ℕ} {c c' c'' : Chunks} {steps steps' steps'' : List Step} →
     Continues b c steps c' steps' → Continues b c' steps' c'' steps'' → Continues b c steps c'' steps''

@@ -39,9 +39,6 @@ may_still true s' n n' h l e = refl
 may_still false true n n' h l e = absurd (false≢true (h refl))
 may_still false false n n' h l e = grind (arith, nat_tests)
 
-may_none : (s : Bool) (n : ℕ) → (s || nat_lt 0 n) ≡ false → n ≡ 0
-may_none s n e = omega (arith, ltb-false 0 n (or_parts s (nat_lt 0 n) e).1)
-
 -- a reading of entries continues by its chunks
 pub continues_by_chunks : {T : Type 0} (b : List ℕ) (s s' : Bool) (c c' : Chunks) (blocks blocks' : Blocks) (w w' : Window)
     (reads reads' : ℕ) (result : Result T ImageFault) → (s' ≡ true → s ≡ true) → c'.chunks_left ≤ c.chunks_left
@@ -50,7 +47,7 @@ pub continues_by_chunks : {T : Type 0} (b : List ℕ) (s s' : Bool) (c c' : Chun
     → HoldsBy blocks w s c → TakesReads reads reads' (reads_by b s c) (reads_by b s' c') (HoldsBy blocks' w' s' c') result
 continues_by_chunks b s s' c c' blocks blocks' w w' reads reads' result still less none took held =
     takes_where (may_by s c) (may_by s' c') reads reads' (to_read b c) (to_read b c') (HoldsReading blocks' w' c') result
-    (may_still s s' c.chunks_left c'.chunks_left still less) (λ e. none (may_none s c.chunks_left e)) (λ e. took (held e))
+    (may_still s s' c.chunks_left c'.chunks_left still less) (λ e. none (grind (arith, ltb-false, or_parts))) (λ e. took (held e))
 
 -- so does a look for holes, of a directory whose shape is right so far
 pub looks_on : {T : Type 0} (b : List ℕ) (s : Bool) (c c' : Chunks) (blocks blocks' : Blocks) (w w' : Window)

@@ -1,16 +1,16 @@
 -- A directory of one chunk is known by where its only block is.
 use Rattle.std.proofs.Common.{◌≡◌, ℕ, zero, suc, ◌+◌, ◌*◌, ◌%◌, ◌<◌, ◌≤◌, ◌==◌, Bool, true, false, not, ◌&&◌, ◌||◌, List, []}
-use Rattle.std.proofs.Common.{◌∷◌, ◌++◌, Some, arith, refl, ap, flat_map, if◌then◌else◌, mod-eq_of_lt}
+use Rattle.std.proofs.Common.{◌∷◌, Some, arith, refl, ap, flat_map, if◌then◌else◌, mod-eq_of_lt}
 use Rattle.std.{proofs.Common.{mul-le-mul_right, nat_lt, slice_index}, specs.Int.div_ceil}
 use Rattle.std.proofs.lemmas.{Grind.div_ceil_times, Bool.Decides.nat_tests}
 use Rattle.ffs_volume.specs.declared.{Class.TheVariants.Dir, Inode.Inode, Layout.Layout, Step.{Step, TheVariants.Run}}
 use Rattle.ffs_volume.specs.Blocks.{Inodes.class_of, Steps.{data_step, steps_at, steps_of}}
-use Rattle.ffs_volume.specs.Directories.{Entries.{bytes_read, chunk_of, chunks_of, has_gap, run_chunks}, PathnameCheck.are_sound}
+use Rattle.ffs_volume.specs.Directories.{Entries.{bytes_read, chunk_of, chunks_of, has_gap}, PathnameCheck.are_sound}
 use Rattle.ffs_volume.specs.{Directories.Roles.{RoledEntry, roled_chunk}, Disk.Areas.is_run_in_range}
 use Rattle.ffs_volume.specs.{Laws.Geometry.IsAcceptedLayout, Encodings.Replay.{fresh_replay, replayed_steps}}
 use Rattle.ffs_volume.specs.{Encodings.ReplayCounts.replayed_runs, Costs.Calm.is_right_size}
 use Rattle.ffs_volume.specs.Disk.Numbers.{piece}
-use Rattle.ffs_walk.{proofs.Counted.{top_unread}, specs.{Rests.{IsAtTop}, Keepings.replay_in}}
+use Rattle.ffs_walk.{proofs.Counted.{top_unread}, specs.{Keepings.replay_in}}
 use Rattle.ffs_workspace.proofs.NoteLaws.{IsOneChunkAt}
 use Rattle.ffs_names.specs.{OneChunk.one_chunk_at, Readings.{IsEnded, chunks_in, gap_left, rest}, declared.chunks.Chunks.Chunks}
 use Rattle.ffs_names.specs.{RunCursors.reading_by, Shapes.GivesDirectory, declared.entries.Entries.Entries}
@@ -86,21 +86,14 @@ one_replayed : (v : Layout) (a : ℕ) (b : List ℕ) → IsAcceptedLayout v → 
     → replayed_steps v 0 fresh_replay (steps_of v (one_chunk_at a) b) ≡ Run a 1 (Some 0) ∷ []
 one_replayed v a b g some inside = rw (one_run v a b g some, inside) refl
 
-chunks_of_one : (v : Layout) (a : ℕ) (b : List ℕ) → IsAcceptedLayout v → (a == 0) ≡ false → is_run_in_range v a 1 ≡ true
-    → chunks_in v b (one_chunk_at a) 0 ≡ run_chunks (reading_by v b 512) a 1 (0 * v.bsize) ++ []
-chunks_of_one v a b g some inside = rw (one_replayed v a b g some inside, inside) refl
-
 -- so it has the chunk at its address alone
 only_chunk_is : (v : Layout) (a : ℕ) (b : List ℕ) → IsAcceptedLayout v → (a == 0) ≡ false → is_run_in_range v a 1 ≡ true
     → chunks_in v b (one_chunk_at a) 0 ≡ chunk_of v.order 0 (piece (a * v.fsize) 512 b) ∷ []
-only_chunk_is v a b g some inside = grind (arith, chunks_of_one)
+only_chunk_is v a b g some inside = grind (arith, one_replayed)
 
 -- where nothing of the chunks is left, no read is, and none that was made is needed
-at_top : (c : Chunks) → IsEnded c → IsAtTop c.walk
-at_top c e = record { single = e.walk.single; double = e.walk.double; triple = e.walk.triple }
-
 pub ended_reads : (b : List ℕ) (s : Bool) (c : Chunks) → IsEnded c → reads_by b s c ≡ 0
-ended_reads b s c e = grind (arith, arith, at_most, over_runs, replay_in, top_unread, at_top, run_over)
+ended_reads b s c e = grind (arith, at_most, over_runs, replay_in, top_unread, run_over)
 
 pub ended_held : (s : Bool) (c : Chunks) → IsEnded c → (blocks : Blocks) (w : Window) → HoldsBy blocks w s c
 ended_held s c e blocks w = grind arith

@@ -1,13 +1,12 @@
 -- What is noted of places, entry by entry, chunk by chunk and directory by directory.
-use Rattle.std.proofs.Common.{◌≡◌, ◌≢◌, ℕ, zero, suc, ◌+◌, ◌*◌, ◌/◌, ◌<◌, ◌≤◌, ◌==◌, Bool, true, false, not, ◌&&◌, ◌||◌}
+use Rattle.std.proofs.Common.{◌≡◌, ◌≢◌, ℕ, zero, suc, ◌+◌, ◌*◌, ◌/◌, ◌<◌, ◌≤◌, ◌==◌, Bool, true, false, not, ◌&&◌}
 use Rattle.std.proofs.Common.{◌⊎◌, List, [], ◌∷◌, length, Option, Some, None, refl, sym, ap, ◌∙◌, arith, inl, inr}
-use Rattle.std.proofs.Common.{flat_map, if◌then◌else◌, slice_index, slice_set, unwrap_or, vec_len}
+use Rattle.std.proofs.Common.{flat_map, if◌then◌else◌, slice_index, slice_set, unwrap_or}
 use Rattle.std.{specs.List.list_any, proofs.{Math.Bool.and-false, lemmas.Bool.{Decides.nat_tests, and_from, and_parts}}}
 use Rattle.std.proofs.lemmas.Bool.{both_ways, cases_eq, cond-false, eq-eqb, eqb-true, leb-true, ltb-true}
-use Rattle.std.proofs.lemmas.{Bool.{ne_eqb, not_from_false, not-true}, List.{Folds.list_any-append, get_or_past}}
+use Rattle.std.proofs.lemmas.{Bool.{ne_eqb, not_from_false, not-true}, List.{Folds.list_any-append}}
 use Rattle.std.{proofs.lemmas.List.{get_or-set_other, get_or-set_same}, specs.declared.vec.Vec.Vec}
 use Rattle.std.specs.declared.alloc.Global.{Global}
-use Rattle.ffs_image.specs.Device.{Device}
 use Rattle.ffs_volume.proofs.{LevelLaws.{level-some, within-zero}}
 use Rattle.ffs_volume.{proofs.{SearchLaws.first_below-some, Unreached.edge-parts}, specs.declared.Layout.Layout}
 use Rattle.ffs_volume.specs.{Disk.{Numbers.piece}, Encodings.Lists.bool_at, Laws.{Geometry.IsAcceptedLayout}}
@@ -18,32 +17,22 @@ use Rattle.ffs_volume.specs.Directories.{Roles.{role_of, roled_chunk, roled_entr
 use Rattle.ffs_volume.specs.{Directories.Volumes.volume_with, Blocks.Inodes.inodes_of}
 use Rattle.ffs_volume.specs.Encodings.Places.{entries_in_chunk, entries_in_part, is_due as is_to_be_read, name_in}
 use Rattle.ffs_volume.specs.Encodings.Places.{part_size, part_in, AreParts, AreNoted, IsNoted}
-use Rattle.ffs_walk.specs.declared.{blocks.Blocks.Blocks, window.Window.Window}
 use Rattle.ffs_survey.proofs.ParentLaws.{parent_above, IsAbove}
 use Rattle.ffs_workspace.proofs.{Leaving.counts_same, PlaceLaws.{any_naming-roled, name_in-after, name_in-among}}
-use Rattle.ffs_workspace.{proofs.PlaceLaws.name_in-roled, specs.{Holds.{HoldsBlockCheck, HoldsSurvey}, Ready.CanRead}}
-use Rattle.ffs_workspace.{specs.Tables.TableHolds, proofs.PartLaws.{begins_part, lies_in_part, BeginsPart}}
-use Rattle.ffs_workspace.specs.declared.{table.Table.Table, workspace.Workspace.Workspace}
+use Rattle.ffs_workspace.{proofs.PlaceLaws.name_in-roled, specs.{Holds.{HoldsBlockCheck, HoldsSurvey}}}
+use Rattle.ffs_workspace.{proofs.PartLaws.{begins_part, lies_in_part, BeginsPart}}
+use Rattle.ffs_workspace.specs.declared.{workspace.Workspace.Workspace}
 use Rattle.ffs_names.{proofs.InParts.named_in_part, specs.{Fits.CursorFits, RunCursors.{last_place, StepsOn}}}
 use Rattle.ffs_names.specs.declared.run_cursor.RunCursor.{RunCursor}
 use Rattle.ffs_names.specs.Noting.{is_child_of, is_found, BeginsNotes, IsParent}
 use Rattle.ffs_names.specs.{Noting.{KeepsToRead, NotesChildren, NotesChunk, NotesEach, NotesRight}}
-use Rattle.ffs_names.specs.Windows.{CanReadChunks}
 
 -- ---- entries of a chunk
--- where no entry is left
-notes_none : (parents ws : List ℕ) (p place : ℕ) → NotesChunk parents ws ws p place []
-notes_none parents ws p place = record { places = λ x. simp and-false; to_read = λ x. refl }
-
-then_on : (m n y : Bool) (a b c place : ℕ) → 0 < place → b ≡ (if m && ((a == 0) && (n || false)) then place else a) → c
-    ≡ (if m && ((b == 0) && y) then place else b) → c ≡ (if m && ((a == 0) && (n || y)) then place else a)
-then_on m n y a b c place low one more = grind (arith, nat_tests)
-
 -- an entry, and those after it
 notes_then : {parents old mid new : List ℕ} {p place : ℕ} {e : RoledEntry} {es : List RoledEntry} → 0 < place →
     NotesChunk parents old mid p place (e ∷ []) → NotesChunk parents mid new p place es →
     NotesChunk parents old new p place (e ∷ es)
-notes_then {parents = parents} {p = p} {place = place} {e = e} {es = es} low one more = grind (arith, then_on)
+notes_then {parents = parents} {p = p} {place = place} {e = e} {es = es} low one more = grind (arith, nat_tests)
 
 -- where other entries name the same inodes
 notes_alike : {parents old new : List ℕ} {p place : ℕ} {es fs : List RoledEntry} →
@@ -62,7 +51,7 @@ notes_next {rest = rest} low is one more =
 pub notes_end : {parents ws : List ℕ} {p place : ℕ} {all : List Entry} → all ≡ [] →
     NotesChunk parents ws ws p place (roled_from false 0 all)
 unfolding roled_from
-notes_end {parents = parents} {ws = ws} {p = p} {place = place} is = rw is (notes_none parents ws p place)
+notes_end {parents = parents} {ws = ws} {p = p} {place = place} is = rw is (grind (arith, and-false))
 
 -- ---- chunks of a directory
 -- of an inode with the parent p of which no place is noted, the entries to come have the first one of p
@@ -297,13 +286,6 @@ pub claims_noted : {v : Layout} {b : List ℕ} {old new : Workspace} →
     new ≡ record old { windows = new.windows; words = new.words } → HoldsBlockCheck v b old → HoldsBlockCheck v b new
 claims_noted {v = v} {b = b} {old = old} e h = grind (arith, counts_same)
 
--- the windows hold what the image gives after the table, windows of chunks and the words were used
-pub ready_noted : {v : Layout} {d d'' : Device} {w : Workspace} {table : Table} {blocks : Blocks} {chunk : Window}
-    {words : Vec ℕ Global} (d' : Device) → d'.contents ≡ d.contents → TableHolds v d'.contents table → d''.contents ≡
-    d'.contents → CanReadChunks v d'' blocks chunk → vec_len words ≡ vec_len w.words → CanRead v d w → CanRead v d''
-    (record w { words = words; windows = record w.windows { table = table; blocks = blocks; current = chunk } })
-ready_noted d' first kept second can long r = grind arith
-
 -- what was read, where the directory of the next word isn't to be read any more
 pub read_next : (old new : List ℕ) (i word : ℕ) → i < length old → is_to_be_read word ≡ false →
     KeepsToRead (slice_set old i word) new → ((x : ℕ) → x < i → is_to_be_read (slice_index old x) ≡ false) → (x : ℕ) →
@@ -312,11 +294,6 @@ read_next old new i word low was_read keeps before x l = keeps x ∙ elim (cases
   | inl e ↦ rw (e, get_or-set_same old i word 0 low) was_read
   | inr o ↦ set_other is_to_be_read old i word x o ∙ before x (omega arith)
 ]
-
--- no directory is to be read where none of those that there are is
-pub none_to_be_read : (ws : List ℕ) (n : ℕ) → length ws ≤ n → ((x : ℕ) → x < n → is_to_be_read (slice_index ws x) ≡ false) → (x : ℕ) →
-    is_to_be_read (slice_index ws x) ≡ false
-none_to_be_read ws n long was_read x = grind (arith, get_or_past)
 
 -- ---- directories that are reached
 -- a directory with a level above 0 isn't the root

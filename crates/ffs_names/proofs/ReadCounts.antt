@@ -1,5 +1,5 @@
 -- Laws of the reads that are still to come of a reading.
-use Rattle.std.proofs.Common.{◌≡◌, ◌≤◌, ◌+◌, ◌==◌, ◌&&◌, nat_lt, if◌then◌else◌, ℕ, Option, Some, None, arith, inl, inr, refl}
+use Rattle.std.proofs.Common.{◌≡◌, ◌≤◌, ◌==◌, ◌&&◌, nat_lt, if◌then◌else◌, ℕ, Option, Some, None, arith, inl, inr, refl}
 use Rattle.std.proofs.lemmas.Bool.Decides.{nat_tests}
 use Rattle.ffs_volume.specs.declared.Step.TheVariants.{Run}
 use Rattle.ffs_layout.specs.declared.geometry.Geometry.{Geometry}
@@ -8,10 +8,7 @@ use Rattle.ffs_walk.specs.{Counts.entered, Rests.IsAtTop, declared.window.Window
 use Rattle.ffs_names.specs.{Costs.{BeginsReads, HoldsRun, unread_run}, RunCursors.IsWhole}
 use Rattle.ffs_names.specs.declared.{chunks.Chunks.Chunks, run_cursor.RunCursor.RunCursor}
 
--- the current Run is one read at most, and none where it has no chunk left, or one was given
-pub run_at_most : (cursor : RunCursor) → unread_run cursor ≤ 1
-run_at_most cursor = grind (arith, nat_tests)
-
+-- the current Run is no read where it has no chunk left
 pub run_over : (cursor : RunCursor) → cursor.next ≡ cursor.count → unread_run cursor ≡ 0
 run_over cursor e = grind (arith, nat_tests)
 
@@ -19,18 +16,12 @@ run_over cursor e = grind (arith, nat_tests)
 pub run_passed : (n : ℕ) → if◌then◌else◌ {A = ℕ} ((n == 0) && nat_lt 0 n) 1 0 ≡ 0
 run_passed n = grind (arith, nat_tests)
 
-pub given_one : (n m : ℕ) → if◌then◌else◌ {A = ℕ} ((n + 1 == 0) && nat_lt 0 m) 1 0 ≡ 0
-given_one n m = grind (arith, nat_tests)
-
--- a window needs no Run of which no chunk was given, or none is left
-pub first_held : (cursor : RunCursor) → cursor.next ≡ 0 → (w : Window) → HoldsRun w cursor
-first_held cursor first w = λ some left. absurd (omega (arith, first, some))
-
+-- and a window needs no such Run
 pub over_held : (cursor : RunCursor) → cursor.next ≡ cursor.count → (w : Window) → HoldsRun w cursor
 over_held cursor over w = λ some left. absurd (omega (arith, over, left))
 
 pub whole_held : (cursor : RunCursor) → IsWhole cursor → (w : Window) → HoldsRun w cursor
-whole_held cursor (inl first) = first_held cursor first
+whole_held cursor (inl first) = grind arith
 whole_held cursor (inr over) = over_held cursor over
 
 -- a reading that begins

@@ -6,13 +6,9 @@ use Rattle.ffs_volume.specs.{Disk.Numbers.piece, Laws.Geometry.IsAcceptedLayout,
 use Rattle.ffs_walk.proofs.{Areas.in_range-below, Ranges.range_step}
 use Rattle.ffs_names.specs.{RunCursors.cursor_chunks, declared.run_cursor.RunCursor.RunCursor}
 
--- a Run after what is read has none
-pub no_chunks : (r : ChunkSource) (start len offset : ℕ) → r.read_bytes ≤ offset → run_chunks r start len offset ≡ []
-no_chunks r start len offset h = grind arith
-
 pub none_far : (v : Layout) (r : ChunkSource) (start len block : ℕ) → IsAcceptedLayout v → 2147483648 ≤ block →
     r.read_bytes ≤ 2147483648 → run_chunks r start len (block * v.bsize) ≡ []
-none_far v r start len block g far few = grind (arith, mul-le-mul_left, no_chunks)
+none_far v r start len block g far few = grind (arith, mul-le-mul_left)
 
 -- a Run in range lies in the volume, and has a block's bytes at most
 pub run_in_volume : (v : Layout) (start len : ℕ) → IsAcceptedLayout v → 0 < len → IsTrue (is_run_in_range v start len) →
@@ -21,9 +17,6 @@ run_in_volume v start len g some h =
     let scaled : (start + len) * v.fsize ≤ v.size * v.fsize = mul-le-mul_right v.fsize (in_range-below v start len g some h)
     in
     omega arith
-
-pub run_in_block : (v : Layout) (len : ℕ) → IsAcceptedLayout v → len ≤ v.frag → len * v.fsize ≤ v.bsize
-run_in_block v len g short = grind (arith, mul-le-mul_right)
 
 -- the first of the current chunks is given
 pub cursor_step : (v : Layout) (b : List ℕ) (cursor : RunCursor) (rest : List Chunk) → cursor.next < cursor.count →

@@ -47,12 +47,6 @@ pub shape_ended : (s : Bool) (order : Order) (chunk last : List ℕ) (place : �
     ≡ ((s && fills_from order chunk place) && (are_sound old && not gap))
 shape_ended s order chunk last place old rest gap gap' none e r same = grind (arith, fills_whole, fills_end)
 
--- a reading begins
-pub shape_begun : (s s' : Bool) (order : Order) (chunk : List ℕ) (cs cs' : List Chunk) (gap left left' : Bool) → s ≡ s'
-    → cs ≡ cs' → gap ≡ false → left ≡ left'
-    → ((s && fills_from order chunk 512) && (are_sound cs && not (gap || left))) ≡ (s' && (are_sound cs' && not left'))
-shape_begun s s' order chunk cs cs' gap left left' q e g l = rw (fills_whole order chunk, and-true s, q, e, g, l) refl
-
 -- so a reading of entries begins with one of chunks, where the current chunk was read to its end
 pub begins_directory : {v : Layout} {i : Inode} {cut : ℕ} {r : Entries} → r.place ≡ 512 → r.right_so_far ≡ is_right_size
     i.size → ((b : List ℕ) → i.size < 2 ^ 31 → rest b r.chunks ≡ chunks_in v b i cut) → r.chunks.gap ≡ false → ((b :
@@ -61,7 +55,7 @@ pub begins_directory : {v : Layout} {i : Inode} {cut : ℕ} {r : Entries} → r.
     HoldsReading blocks w r.chunks) → r.chunks.runs ≡ 0 → ((b : List ℕ) → runs_left b r.chunks ≡ replayed_runs v cut
     fresh_replay (steps_of v i b)) → BeginsDirectory v i cut r
 begins_directory {r = r} place right chunks gap left few held none runs = record {
-  gives = λ b small. record { entries = grind (arith, end_seen); shape = grind (arith, shape_begun) };
+  gives = λ b small. record { entries = grind (arith, end_seen); shape = grind (arith, fills_whole, and-true) };
   place = place;
   runs = none;
   runs_left = runs;

@@ -3,10 +3,9 @@ use Rattle.std.proofs.Common.{◌≡◌, ◌∙◌, ◌+◌, ◌≤◌, ℕ, Boo
 use Rattle.std.{proofs.{Common.{min, slice_index, sym, refl}, lemmas.Bool.and_parts}, specs.Result.is_ok}
 use Rattle.std.specs.Prelude.{Result, Ok, Err, OnOk, OnErr}
 use Rattle.ffs_volume.specs.{declared.Layout.Layout, Encodings.Kinds.kind_at, Directories.Naming.graph_of}
-use Rattle.ffs_volume.specs.Directories.{Roles.{Volume, references, references_below, roled_entries}, Volumes.{volume_of, volume_with}}
+use Rattle.ffs_volume.specs.Directories.{Roles.{references_below, roled_entries}, Volumes.{volume_of, volume_with}}
 use Rattle.ffs_volume.specs.{Encodings.Links.start_at, Blocks.Inodes.inodes_of, Costs.Calm.is_directory_of_right_shape}
-use Rattle.ffs_workspace.specs.Holds.{HoldsBlockCheck, HoldsReferences, HoldsTree}
-use Rattle.ffs_workspace.{proofs.Leaving.counts_surveyed, specs.Leaves.LeavesBlockCheck}
+use Rattle.ffs_workspace.specs.Holds.{HoldsReferences, HoldsTree}
 use Rattle.ffs_workspace.specs.declared.workspace.Workspace.{Workspace}
 use Rattle.ffs_survey.specs.{Calm.AreCalm, Survey.{IsSurvey, counted_below, graph_with, most_start, references_to}}
 use Rattle.ffs_names.{specs.{Readers.{Base, dir_entries, dir_right_shape}, Surveys.FlagsOnlyCalm}, proofs.DirLaws.kind_dirs}
@@ -32,11 +31,6 @@ pub holds_tree : (v : Layout) (b : List ℕ) (w : Workspace) (starts counts : Li
 unfolding volume_of volume_with
 holds_tree v b w starts counts flags marks parents f m u s = grind arith
 
--- the references of the graph are the volume's
-references_is : (vol : Volume) (x : ℕ) → references_to (graph_of vol) x ≡ references vol x
-unfolding counted_below references_below
-references_is vol x = grind arith
-
 -- no start is past the greatest one
 start_low : (v : Layout) (b : List ℕ) (x : ℕ) → start_at v b x ≤ most_start
 unfolding start_at
@@ -47,19 +41,14 @@ pub holds_references : (v : Layout) (b : List ℕ) (old new : Workspace) {starts
     {parents : List ℕ} → old.references.items ≡ starts → new.references.items ≡ counts
     → ((x : ℕ) → slice_index old.references.items x ≡ start_at v b x)
     → IsSurvey (graph_of (volume_of v b)) starts counts flags marks parents → HoldsReferences v b new
-unfolding volume_of volume_with
+unfolding volume_of volume_with counted_below references_below
 holds_references v b old new {starts = starts} e c h s = record {
   counts = λ x l.
       let begun : slice_index starts x ≡ start_at v b x = sym (ap (λ xs. slice_index xs x) e) ∙ h x in
       let low : min (slice_index starts x) most_start ≡ start_at v b x = omega (arith, begun, start_low v b x) in
       ap (λ xs. slice_index xs x) c ∙ s.counts x l ∙ ap (λ k. k + references_to (graph_of (volume_of v b)) x) low
-      ∙ ap (λ k. start_at v b x + k) (references_is (volume_of v b) x);
+      ∙ ap (λ k. start_at v b x + k) (grind arith);
 }
-
--- the claims are held still, and what the survey found with them
-pub holds_claims : (v : Layout) (b : List ℕ) (old new : Workspace) → LeavesBlockCheck old new → new.surveyed ≡ true →
-    HoldsReferences v b new → HoldsTree v b new → HoldsBlockCheck v b old → HoldsBlockCheck v b new
-holds_claims v b old new same surveyed references tree h = grind (arith, counts_surveyed)
 
 -- whether an answer is Ok is said of one that is not
 pub on_err_is : {T E : Type 0} (r : Result T E) (b : Bool) → b ≡ is_ok r → OnErr r (b ≡ false)

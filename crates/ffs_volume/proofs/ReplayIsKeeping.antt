@@ -49,7 +49,7 @@ full_ends : (v : Layout) (s : Claims) (steps : List Step) → nat_lt s.dup_offer
 full_ends v s steps e =
     ap (λ x. x.kept) (shut_steps v 0 s steps (and_right (nat_lt s.bad 11) (nat_lt s.dup_offers 11) e)).1
 
--- the same of the states
+-- how many offers of a Run are kept, by the states before it, after it and at the end
 offers_replay : (v : Layout) (s t : Claims) (start len : ℕ) (steps : List Step) → t.kept ≡ s.kept →
     t.dup_offers ≡ s.dup_offers → s.dup_offers ≤ s.kept
     → s.kept + taken_of (cut_of (after_steps v (after_offers v t (range_with_len start len)) steps)) s.kept len

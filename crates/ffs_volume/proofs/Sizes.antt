@@ -7,6 +7,7 @@ use Rattle.ffs_volume.specs.declared.Layout.{Layout}
 pub some_inodes : (v : Layout) → IsAcceptedLayout v → 2 < v.ncg * v.ipg
 some_inodes v g = grind arith
 
+-- no steps where the size is 0
 pub no_steps : (v : Layout) (image : List ℕ) (i : Inode) → 0 < v.bsize → i.size ≡ 0 → steps_of v i image ≡ []
 unfolding steps_of
 no_steps v image i h e = grind (arith, zero-div, zero-mod)

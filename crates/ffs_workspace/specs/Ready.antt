@@ -1,5 +1,5 @@
 -- A workspace as it is made, one that is ready for the volume of an image, and one that can be read into.
-use Rattle.std.specs.Prelude.{◌≡◌, ◌*◌, ℕ, false, List, Option, Result, IfOk, replicate, vec_len}
+use Rattle.std.specs.Prelude.{◌≡◌, ◌*◌, ◌≤◌, ℕ, false, List, Option, Result, IfOk, replicate, vec_len}
 use Rattle.ffs_image.specs.Device.{Device}
 use Rattle.ffs_memory.specs.Account.{Account, Asks}
 use Rattle.ffs_volume.specs.{declared.Layout.Layout, Blocks.Inodes.inodes_of}

@@ -6,7 +6,7 @@ use Rattle.ffs_maps.proofs.Words.{reserved_from_bits}
 use Rattle.ffs_maps.proofs.Runs.{none_past_size}
 use Rattle.ffs_maps.proofs.reserved.reserved_word.Goals as goal
 
--- and no others
+-- a stretch has no bits past its end
 none_above : (b : Bool) (start end word bits k : ℕ) → start ≤ end → end ≤ k → bit_at word k ≡ 0 →
     bit_at bits k ≡ cond (b && is_between start end k) 1 0 → bit_at (bit_or word bits) k ≡ 0
 none_above b start end word bits k order past none is = grind (arith, bit_at_or)

@@ -1,3 +1,4 @@
+use Rattle.std.proofs.lemmas.List.{get_or_past}
 use Rattle.std.proofs.Common.{Bool, ◌≡◌, ◌≢◌, ◌<◌, ◌≤◌, ◌==◌, ◌&&◌, nat_lt, List, ◌*◌, ◌+◌, ◌∙◌, false, true, suc, ℕ, ap, arith, below_more, length, refl}
 use Rattle.std.proofs.{Common.{rules, slice_index, slice_set, sym}, lemmas.Grind.{common_steps, get_or_default_zero}}
 use Rattle.std.proofs.lemmas.{Bool.Decides.nat_tests, Result.err_from_is_err_and}
@@ -7,14 +8,10 @@ use Rattle.ffs_volume.specs.Encodings.{Lists.bool_at, Places.{is_due as is_to_be
 use Rattle.ffs_survey.proofs.Costs.{cost_take, costs_rise}
 use Rattle.ffs_volume.proofs.SearchLaws.{some_below-from}
 use Rattle.ffs_names.{specs.Noting.{BeginsNotes, IsParent, KeepsToRead, has_child}, proofs.PlacesNoted.{claims_noted, coming_end}}
-use Rattle.ffs_names.proofs.PlacesNoted.{coming_first, coming_noted, none_to_be_read, only_fewer, parent_is_dir}
+use Rattle.ffs_names.proofs.PlacesNoted.{coming_first, coming_noted, only_fewer, parent_is_dir}
 use Rattle.ffs_names.proofs.PlacesNoted.{read_next, places_after, places_same, set_other, set_same, survey_noted}
 use Rattle.ffs_names.proofs.places.note_places_unlimited.Goals.{then-is_due+in_ok-note_directory, else-is_due}
 use Rattle.ffs_names.proofs.places.note_places_unlimited.Goals as goal
-
--- an inode with a parent is one of the list
-child_inside : (parents : List ℕ) (x : ℕ) → 2 ≤ slice_index parents x → x < length parents
-child_inside parents x some = grind (arith, common_steps)
 
 is_child : (reached : Bool) (root x parent d : ℕ) → root < x → reached ≡ true → parent ≡ d →
     (nat_lt root x && (reached && (parent == d))) ≡ true
@@ -26,7 +23,7 @@ child_of : {reached : List Bool} {parents : List ℕ} {d : ℕ} → IsParent rea
 child_of {reached = reached} {parents = parents} {d = d} p =
     let some : 2 ≤ slice_index parents p.child = rw p.parent_is p.from_root in
     some_below-from (λ x. nat_lt 2 x && (bool_at reached x && (slice_index parents x == d))) (length parents) p.child
-    (child_inside parents p.child some) (is_child (bool_at reached p.child) 2 p.child (slice_index parents p.child) d
+    (grind (arith, common_steps)) (is_child (bool_at reached p.child) 2 p.child (slice_index parents p.child) d
     p.after_root p.is_reached p.parent_is)
 
 pub loop-dir-init : goal.loop-dir-init
@@ -157,7 +154,7 @@ returns-in_err-note_directory-clause-still g c = λ b k.
 
 -- what is left
 pub returns-clause-leaves : goal.returns-clause-leaves
-returns-clause-leaves g c = grind (arith, common_steps, none_to_be_read)
+returns-clause-leaves g c = grind (arith, common_steps, get_or_past)
 
 pub returns-in_err-note_directory-clause-leaves : goal.returns-in_err-note_directory-clause-leaves
 returns-in_err-note_directory-clause-leaves g c = grind (arith, err_from_is_err_and)

@@ -1,9 +1,10 @@
+use Rattle.ffs_workspace.proofs.Leaving.{counts_surveyed}
 use Rattle.std.proofs.Common.{◌∙◌, ◌≡◌, ◌*◌, ℕ, List, Some, length, ap, subst, sym, rules, arith, slice_index}
 use Rattle.ffs_volume.{proofs.Sizes.some_inodes, specs.{Encodings.Kinds.kind_at}}
 use Rattle.ffs_workspace.proofs.{Leaving.counts_begin, PlaceLaws.{filled_noted, zero_index}}
 use Rattle.ffs_workspace.specs.Holds.{HoldsBlockCheck}
 use Rattle.ffs_workspace.specs.Tables.{IsTableOf}
-use Rattle.ffs_names.{specs.Readers.{Base, KnowsReader}, proofs.SurveyHolds.{volume_survey, holds_claims, holds_tree}}
+use Rattle.ffs_names.{specs.Readers.{Base, KnowsReader}, proofs.SurveyHolds.{volume_survey, holds_tree}}
 use Rattle.ffs_names.proofs.SurveyHolds.{volume_calm, holds_calm, holds_references, on_ok_is, on_err_is}
 use Rattle.ffs_names.proofs.{surveying.survey_unlimited.Goals.After-survey_directories-surveyed, CalmDirLaws.flags_each_calm}
 use Rattle.ffs_names.proofs.surveying.survey_unlimited.Given as given
@@ -90,7 +91,7 @@ returns-clause-survey g c = λ b k.
             survey = record { tree = tree; places = filled_noted _ _ _ _ c.fill.ensures.items };
             references = references;
             surveyed = c.is_ok-workspace.ensures.value ∙ ok;
-            block_check = holds_claims v b w _ (search rules) (c.is_ok-workspace.ensures.value ∙ ok) references tree h;
+            block_check = grind (arith, counts_surveyed);
             calm = holds_calm v b _ kinds_now marked reached parents flags (sym c.deref-2.ensures.value) (search rules)
                 (search rules) (search rules) (search rules)
                 (volume_calm (base g at) b kinds_now marked reached parents flags found.calm);

@@ -1,10 +1,11 @@
+use Rattle.ffs_names.proofs.Continuing.{counts_here}
 use Rattle.std.proofs.Common.{◌≡◌, ◌∙◌, ◌∷◌, ◌++◌, ◌<◌, ℕ, List, Some, inr, replicate, refl, ap, sym}
 use Rattle.std.proofs.{Common.arith, lemmas.{Bool.false≢true, Result.err_from_is_err_and}}
-use Rattle.ffs_volume.specs.declared.Step.{Step, TheVariants.Gap}
+use Rattle.ffs_volume.{specs.declared.Step.{Step, TheVariants.Gap}, proofs.Results.fails_with}
 use Rattle.ffs_walk.specs.{Keepings.replay_in, Rests.{most_steps_left, steps_left}}
 use Rattle.ffs_names.{specs.Windows.CanWalkDir, proofs.Advances.{only_walks, over_gaps, over_rest, over_runs}}
 use Rattle.ffs_names.proofs.Advances.{over_tail, runs_gaps, runs_on, runs_tail, same_walked, seen_if_over, seen_if_shut}
-use Rattle.ffs_names.proofs.{Advances.{over_left, sees_on, walks_on}, Continuing.{can_walk, continues_here, continues_more}}
+use Rattle.ffs_names.proofs.{Advances.{over_left, sees_on, walks_on}, Continuing.{can_walk, continues_more}}
 use Rattle.ffs_names.proofs.{Continuing.{no_more, same_here, same_more, walk_on}, ReadCounts.whole_held}
 use Rattle.ffs_names.proofs.chunks.Chunks.advance.Goals as goal
 
@@ -21,7 +22,7 @@ pub invariant_of-self-in-Some-Gap : goal.invariant_of-self-in-Some-Gap
 invariant_of-self-in-Some-Gap g c = grind arith
 
 pub steps-init : goal.steps-init
-steps-init g c = grind (arith, continues_here, same_here, no_more)
+steps-init g c = grind (arith, same_here, no_more, counts_here)
 
 pub steps-preserved-in-Some-Tail : goal.steps-preserved-in-Some-Tail
 steps-preserved-in-Some-Tail g c =
@@ -165,8 +166,7 @@ pub returns-in_err-next-clause-leaves : goal.returns-in_err-next-clause-leaves
 returns-in_err-next-clause-leaves g c =
     let i = c.steps.invariant in
     let failed = c.in_err-next.ensures in
-    let p = err_from_is_err_and c.from_residual.result c.from_residual.ensures.1 in
-    rw (p.1, p.2) (record {
+    rw (fails_with _ c.from_residual.ensures.1) (record {
       same = same_walked i.same (only_walks c.next.ensures.same.geometry refl refl refl refl refl);
       ready = walk_on i.same.geometry failed.leaves.read.size c.next.ensures.leaves.kept i.ready;
       read = rw i.device at failed.leaves.read;

@@ -1,7 +1,8 @@
+use Rattle.std.proofs.lemmas.Bool.Decides.{nat_tests}
 use Rattle.std.proofs.{Common.{◌∙◌, ◌+◌, ◌*◌, ap, arith}, lemmas.Grind.common_steps}
 use Rattle.std.proofs.lemmas.Result.{err_from_is_err_and}
-use Rattle.ffs_volume.specs.Disk.Numbers.{piece}
-use Rattle.ffs_names.proofs.{Advances.run_is_given, ReadCounts.given_one, RunChunks.cursor_step}
+use Rattle.ffs_volume.{specs.Disk.Numbers.piece, proofs.Results.fails_with}
+use Rattle.ffs_names.proofs.{Advances.run_is_given, RunChunks.cursor_step}
 use Rattle.ffs_names.proofs.chunks.Chunks.read.Goals as goal
 
 pub returns-clause-chunk : goal.returns-clause-chunk
@@ -29,7 +30,7 @@ returns-clause-place g c =
 
 pub returns-in_err-advance-clause-reads : goal.returns-in_err-advance-clause-reads
 returns-in_err-advance-clause-reads g c =
-    rw (err_from_is_err_and c.from_residual.result c.from_residual.ensures.1).1 (λ held b t.
+    rw (fails_with _ c.from_residual.ensures.1) (λ held b t.
     let took = c.in_err-advance.ensures.leaves.counted c.args.window.now held b t in
     record { most = took.most; paid = tt; held = tt })
 
@@ -40,9 +41,7 @@ returns-then-not-branch-clause-reads g c = λ held b t.
 
 -- the chunks of the Run are read, unless the window has them
 pub returns-in_err-read_chunk-clause-reads : goal.returns-in_err-read_chunk-clause-reads
-returns-in_err-read_chunk-clause-reads g c =
-    let p = err_from_is_err_and c.from_residual-in_err-read_chunk.result c.from_residual-in_err-read_chunk.ensures.1 in
-    rw p.1 (λ held b t.
+returns-in_err-read_chunk-clause-reads g c = rw (fails_with _ c.from_residual-in_err-read_chunk.ensures.1) (λ held b t.
     let took = c.in_ok-advance.ensures.leaves.counted c.args.window.now held b t in
     let run = c.read_chunk.ensures.leaves.counted took.held.run in
     record { most = omega (arith, took.paid, run); paid = tt; held = tt })
@@ -54,7 +53,7 @@ returns-clause-reads g c = λ held b t.
     let run = c.read_chunk.ensures.leaves.counted took.held.run in
     record {
       most = omega (arith, took.paid, run);
-      paid = omega (arith, took.paid, run, given_one h.next h.count);
+      paid = grind (arith, took.paid, run, nat_tests);
       held = record { frames = took.held.frames; run = λ some left. c.in_ok-read_chunk.ensures.leaves.held left };
     }
 
@@ -66,8 +65,7 @@ returns-clause-steps g c = grind arith
 pub returns-in_err-advance-clause-leaves : goal.returns-in_err-advance-clause-leaves
 returns-in_err-advance-clause-leaves g c =
     let failed = c.in_err-advance.ensures in
-    let p = err_from_is_err_and c.from_residual.result c.from_residual.ensures.1 in
-    rw (p.1, p.2) (record {
+    rw (fails_with _ c.from_residual.ensures.1) (record {
       same = failed.leaves.same;
       runs = record {
         rises = failed.leaves.same.runs;

@@ -1,6 +1,6 @@
 use Rattle.std.proofs.{Common.{◌≡◌, ◌∙◌, ◌==◌, true, arith, inl, refl, sym, ap}, lemmas.Bool.Decides.nat_tests}
 use Rattle.ffs_names.{specs.declared.chunks.Chunks.Chunks, proofs.Advances.{SeesBy, no_data, sees_chunks, sees_none}}
-use Rattle.ffs_names.proofs.{ReadCounts.{entered_none, run_at_most}, chunks.Chunks.see.Goals.After-take}
+use Rattle.ffs_names.proofs.{ReadCounts.entered_none, chunks.Chunks.see.Goals.After-take}
 use Rattle.ffs_names.proofs.chunks.Chunks.see.Goals as goal
 
 -- the Run is counted and replayed, and the rest stays, but for the current Run
@@ -26,7 +26,7 @@ returns-in-Some-clause-sees c =
     sees_chunks (seen (goal.at.returns-in-Some-clause-sees c).After-take refl refl refl refl refl)
     (λ b. rw (whole, c.in-Some.is, sym c.in_range-in_range.ensures ∙ c.if-not-in_range.false)
     (c.of_run-self.ensures.chunks b))
-    (omega (arith, block, run_at_most c.of_run-self.result))
+    (grind (arith, block, nat_tests))
     (inl c.of_run-self.ensures.first)
 
 pub returns-in_default-clause-sees : goal.returns-in_default-clause-sees

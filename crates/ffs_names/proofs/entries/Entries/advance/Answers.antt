@@ -1,6 +1,6 @@
 use Rattle.std.proofs.{Common.{◌≡◌, ◌∙◌, ◌+◌, ◌≤◌, ◌==◌, ◌&&◌, ℕ, List, [], Some, ap, refl, sym, arith}, lemmas.Bool.and_parts}
+use Rattle.ffs_volume.proofs.Results.{fails_with}
 use Rattle.ffs_names.proofs.OneChunks.{ended_held, ended_reads, ended_rest}
-use Rattle.std.proofs.lemmas.Result.{err_from_is_err_and}
 use Rattle.ffs_walk.specs.Rests.{most_steps_left}
 use Rattle.ffs_names.specs.{Costs.{HoldsEntries, reads_for_entries}, Entering.to_come, Readings.rest}
 use Rattle.ffs_names.proofs.{Continuing.counts_more, Entered.{chunk_came, end_seen, none_came}}
@@ -147,8 +147,7 @@ returns-in_err-next-clause-leaves g c =
     let same = c.take.ensures.same.chunks in
     let failed = c.in_err-next.ensures.leaves in
     let geometry = ap (λ x. x.walk.geometry) same ∙ i.geometry in
-    let p = err_from_is_err_and c.from_residual.result c.from_residual.ensures.1 in
-    rw (p.1, p.2) (record {
+    rw (fails_with _ c.from_residual.ensures.1) (record {
       geometry = failed.geometry ∙ geometry;
       ready = rw geometry at failed.ready;
       read = rw i.device at failed.read;
@@ -187,7 +186,7 @@ returns-in-None-2-clause-reads g c = λ held b t.
 
 pub returns-in_err-next-clause-reads : goal.returns-in_err-next-clause-reads
 returns-in_err-next-clause-reads g c =
-    rw (err_from_is_err_and c.from_residual.result c.from_residual.ensures.1).1 (λ held b t.
+    rw (fails_with _ c.from_residual.ensures.1) (λ held b t.
     let s = c.take.new.self in
     let next = c.in_err-next.ensures in
     let now = taken g (goal.at.returns-in_err-next-clause-reads g c).After-take held b t in

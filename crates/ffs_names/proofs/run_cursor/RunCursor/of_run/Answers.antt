@@ -1,5 +1,6 @@
+use Rattle.std.proofs.Common.{mul-le-mul_right}
 use Rattle.std.proofs.{Common.{◌∙◌, arith, sym}, Math.Nat.mul-mod_left}
-use Rattle.ffs_names.{specs.RunCursors.reading_by, proofs.RunChunks.{none_far, run_in_volume, run_in_block}}
+use Rattle.ffs_names.{specs.RunCursors.reading_by, proofs.RunChunks.{none_far, run_in_volume}}
 use Rattle.ffs_names.proofs.run_cursor.RunCursor.of_run.Goals as goal
 
 -- a Run that begins after what is read has no chunks
@@ -19,4 +20,4 @@ pub returns-then-offset-bytes_to_read : goal.returns-then-offset-bytes_to_read
 returns-then-offset-bytes_to_read c = grind arith
 
 pub returns : goal.returns
-returns c = grind (arith, run_in_block, run_in_volume, mul-mod_left)
+returns c = grind (arith, run_in_volume, mul-mod_left, mul-le-mul_right)
