@@ -1,15 +1,15 @@
 -- How far a climb to the root has come, and how often it has read.
 use Rattle.std.proofs.Common.{◌≡◌, ◌≢◌, ℕ, zero, suc, ◌+◌, ◌*◌, ◌<◌, ◌≤◌, false, List, ◌∷◌, length, ltb-false, Some}
-use Rattle.std.proofs.{Common.{arith, Option, Result, sym, ◌∙◌, true}}
+use Rattle.std.proofs.Common.{arith, mul-le-mul_right, Option, Result, sym, ◌∙◌, true}
 use Rattle.ffs_workspace.specs.Moments.{WorkMoment}
 use Rattle.ffs_image.specs.declared.image.ImageFault.{ImageFault}
 use Rattle.ffs_volume.specs.Directories.{Graph.{Graph, level}, Paths.joined, Naming.graph_of, Volumes.volume_of}
 use Rattle.ffs_volume.{specs.{declared.Layout.Layout, Encodings.Places.IsNoted}, proofs.LevelLaws.reached-level}
 use Rattle.ffs_survey.proofs.ParentLaws.{root_level}
 use Rattle.ffs_workspace.specs.{Found.WithSurvey, Holds.{bool_at, HoldsSurvey}, declared.workspace.Workspace.Workspace}
-use Rattle.ffs_paths.specs.{Buffers.HoldsNames, Climbing.IsParentOf, Reads.{ForTree, KnowsPlaces, names_to, OnlyReads}}
+use Rattle.ffs_paths.specs.{Buffers.HoldsNames, Climbing.IsParentOf, Reads.{ForTree, KnowsPlaces, names_read, names_to, OnlyReads}}
 use Rattle.ffs_paths.{specs.Reads.{EachTakesAtMost, ReadsFew, ReadsNames}, proofs.LongestEnds.joined-length}
-use Rattle.ffs_paths.{proofs.WaysUp.{IsOnWay, parent_is}, specs.declared.buffer.PathBuffer.PathBuffer}
+use Rattle.ffs_paths.{proofs.WaysUp.{IsOnWay, parent_is, way_room}, specs.declared.buffer.PathBuffer.PathBuffer}
 
 -- so many steps were climbed, with a read for each at most, and with a name for each that takes two
 -- bytes at least
@@ -55,15 +55,21 @@ pub noted_child : {v : Layout} {contents : Option (List ℕ)} {b : List ℕ} {w 
 noted_child {v = v} {b = b} {d = d} knows of lists = grind (arith, reached-level, noted_here)
 
 -- ---- a read for each name
--- a climb has made no more reads than the directory that it began at has names
-climbed_names : {g : Graph} {k d at step reads reads' : ℕ} {w w' : Workspace} {p : PathBuffer} → level g d ≡ Some k →
-    IsOnWay g k d at step p → HasClimbed step reads reads' w w' p → reads' ≤ reads + names_to g d
-climbed_names l way h = rw l (omega (arith, way.steps, h.few.count))
+-- a climb has made no more steps than its path takes names
+steps_below : {g : Graph} {k d at step : ℕ} {p : PathBuffer} → level g d ≡ Some k → IsOnWay g k d at step p →
+    step ≤ names_read g d
+steps_below l way = rw l (omega (arith, way.steps, way.read))
 
--- nor more than so many for each of its names
-steps_below : {g : Graph} {k d at step : ℕ} {p : PathBuffer} (reads reads' n : ℕ) → level g d ≡ Some k →
-    IsOnWay g k d at step p → reads' ≤ reads + step * (1 + n) → reads' ≤ reads + names_to g d * (1 + n)
-steps_below {k = k} {step = step} reads reads' n l way h = grind arith
+-- and with room for a name more, below the root, there is a step more
+below_root : (g : Graph) (left at : ℕ) → level g at ≡ Some left → at ≢ 2 → 0 < left
+below_root g zero at l n = absurd (n (root_level g at l))
+below_root g (suc left) at l n = omega arith
+
+pub step_below : {g : Graph} {k d at step : ℕ} {p : PathBuffer} → level g d ≡ Some k → IsOnWay g k d at step p →
+    p.cut ≡ false → at ≢ 2 → step + 1 ≤ names_read g d
+step_below {g = g} {at = at} l way room below =
+    let some = below_root g way.left at way.level below in
+    rw l (omega (arith, way.steps, way_room way room, some))
 
 -- so it leaves what it states
 pub climb_leaves : {T : Type 0} {v : Layout} {old new : WorkMoment} {x at step : ℕ} {p : PathBuffer}
@@ -79,10 +85,10 @@ climb_leaves {old = old} {new = new} {x = x} reached reads way counted searched 
   counted = λ b k. few_more (counted b k).few (counted b k).most;
   names = λ b k.
       let l = reached-level _ x (sym (k.survey.tree.reached x) ∙ reached) in
-      climbed_names l.1 (way b k.gives_bytes k.block_check k.survey l.0 l.1) (counted b k);
+      omega (arith, (counted b k).few.count, steps_below l.1 (way b k.gives_bytes k.block_check k.survey l.0 l.1));
   searched = λ b n k few.
       let l = reached-level _ x (sym (k.2.tree.reached x) ∙ reached) in
-      steps_below old.reads new.reads n l.1 (way b k.0 k.1 k.2 l.0 l.1) (searched b n k few);
+      omega (arith, searched b n k few, mul-le-mul_right (1 + n) (steps_below l.1 (way b k.0 k.1 k.2 l.0 l.1)));
 }
 
 -- a directory has a name more than its parent

@@ -42,6 +42,13 @@ unfolding longest_end
 end-whole most [] h = refl
 end-whole most (name ∷ names) h = grind (arith, nat_tests)
 
+-- so they are in that of more names
+pub end_within : (most : ℕ) (above names : List (List ℕ)) → length (joined names) ≤ most →
+    length names ≤ length (longest_end most (above ++ names))
+unfolding longest_end
+end_within most [] names h = rw (end-whole most names h) (omega arith)
+end_within most (name ∷ above) names h = grind (arith, nat_tests, length-append, end_within most above names h)
+
 -- ---- and with a name more after them
 -- the longest end of a longer one
 end-end : (less most : ℕ) (names : List (List ℕ)) → less ≤ most → longest_end less (longest_end most names)

@@ -5,7 +5,7 @@ use Rattle.ffs_workspace.specs.Moments.{WorkMoment}
 use Rattle.ffs_image.specs.declared.image.ImageFault.{ImageFault}
 use Rattle.ffs_volume.specs.{declared.Layout.Layout, Directories.{Naming.graph_of, Volumes.volume_of}}
 use Rattle.ffs_workspace.specs.declared.workspace.Workspace.{Workspace}
-use Rattle.ffs_paths.specs.{Climbing.IsParentOf, Reads.{HoldsPlaceOf, KnowsPlaces, names_to, ReadsName}}
+use Rattle.ffs_paths.specs.{Climbing.IsParentOf, Reads.{HoldsPlaceOf, KnowsPlaces, names_read, ReadsName}}
 use Rattle.ffs_paths.specs.Reads.{ReadsNames, ReadsPartOf}
 use Rattle.ffs_paths.specs.KeptParents.{HasPathOf, HoldsPlaceThen, StoresChild, HoldsKeptParent, StoresPathOf, KeptMoment, PathCosts, SparesReads}
 use Rattle.ffs_paths.{specs.declared.kept_parent.KeptParent.KeptParent, proofs.Climbed.{few_more, few_then, names_more, noted_child}}
@@ -18,7 +18,7 @@ one_parent of is = of.is ∙ sym is.is
 -- the path of the parent was kept, and then the name was read
 pub spares_name : {v : Layout} {x p mid : ℕ} {w : Workspace} {old new : KeptMoment} →
     IsParentOf old.at.workspace x p → ((b : List ℕ) → KnowsPlaces v old.at.image.contents old.at.workspace b →
-    mid ≤ old.at.reads + names_to (graph_of (volume_of v b)) p) →
+    mid ≤ old.at.reads + names_read (graph_of (volume_of v b)) p) →
     (HasPathOf old.kept p → (mid ≡ old.at.reads) × (w ≡ old.at.workspace)) →
     ((b : List ℕ) → KnowsPlaces v old.at.image.contents old.at.workspace b → new.at.reads ≤ mid + 1) →
     ((b : List ℕ) → KnowsPlaces v old.at.image.contents old.at.workspace b → HoldsPlaceOf v w x → new.at.reads ≤ mid) →
@@ -90,7 +90,7 @@ costs_none {result = result} s none right left = record {
     kept_parent = kept_so result s left.reads right;
   };
   spares = record {
-    names = left.names;
+    names = λ b k. omega (arith, left.names b k);
     kept = λ b p k of has. absurd (none p of);
     again = λ b p k of has held. absurd (none p of);
   };

@@ -1,13 +1,13 @@
 -- The way from a directory up to the root.
-use Rattle.std.proofs.Common.{◌≡◌, ◌≢◌, ℕ, zero, suc, ◌+◌, ◌<◌, Bool, true, List, [], ◌∷◌, ◌++◌, Some, refl, sym, ap}
-use Rattle.std.proofs.Common.{subst, ◌∙◌, arith, append_assoc, ◌*◌, cond, length, ltb-true, unwrap_or, option_map}
+use Rattle.std.proofs.Common.{◌≡◌, ◌≢◌, ℕ, zero, suc, ◌+◌, ◌<◌, Bool, false, true, List, [], ◌∷◌, ◌++◌, Some, refl, sym, ap}
+use Rattle.std.proofs.Common.{subst, ◌∙◌, arith, append_assoc, ◌*◌, cond, length, ltb-false, ltb-true, ◌≤◌, unwrap_or, option_map}
 use Rattle.std.{specs.List.list_any, proofs.lemmas.Bool.{both_ways, and_parts, ne_eqb, cond-false, eq-eqb}}
 use Rattle.ffs_volume.{proofs.LevelLaws.{level-some, within-zero, reached-level}, specs.Directories.Graph.Graph}
 use Rattle.ffs_volume.specs.Directories.{Graph.{level, is_naming_entry, is_naming_dir, parent}, Naming.graph_of}
-use Rattle.ffs_volume.specs.Directories.Paths.{joined, names_down, path_bytes, dir_path, dir_path_of_names, entry_path}
+use Rattle.ffs_volume.specs.Directories.Paths.{joined, longest_end, names_down, path_bytes, dir_path, dir_path_of_names, entry_path}
 use Rattle.ffs_volume.{specs.Directories.{Roles.RoledEntry}, proofs.PathBound.path_text-fits}
 use Rattle.ffs_volume.specs.{Directories.Volumes.{volume_of, volume_with}, declared.Layout.Layout}
-use Rattle.ffs_paths.{specs.Climbing.{in_room, name_in, IsNameIn, IsParentOf}, proofs.{Held.first_cut}}
+use Rattle.ffs_paths.{specs.Climbing.{in_room, name_in, IsNameIn, IsParentOf}, proofs.{Held.first_cut, LongestEnds.end_within}}
 use Rattle.ffs_paths.{proofs.NoSlashes.down_single, specs.{Buffers.HoldsNames, DirectoryPaths.{HoldsPath, IsPathOf}}}
 use Rattle.ffs_paths.specs.{KeptParents.{IsKeptParent, LeadsTo}, NameTexts.name_bytes, Slashes.HaveNoSlash}
 use Rattle.ffs_paths.specs.declared.{buffer.PathBuffer.PathBuffer, kept_parent.KeptParent.KeptParent}
@@ -27,8 +27,18 @@ pub record IsOnWay (g : Graph) (k d at step : ℕ) (p : PathBuffer) : Type 0 whe
   pub level : level g at ≡ Some left
   pub steps : left + step ≡ k
   pub following : List (List ℕ)
+  pub count : length following ≡ step
   pub held : HoldsNames p following
   pub whole : names_down g left at ++ following ≡ names_down g k d
+  pub read : step ≤ suc (length (longest_end 1024 (names_down g k d)))
+
+-- while its names have room, they are in the longest end
+pub way_room : {g : Graph} {k d at step : ℕ} {p : PathBuffer} → IsOnWay g k d at step p → p.cut ≡ false →
+    step ≤ length (longest_end 1024 (names_down g k d))
+way_room {g = g} {at = at} w room =
+    let within = subst (λ names. length w.following ≤ length (longest_end 1024 names)) w.whole
+    (end_within 1024 (names_down g w.left at) w.following (ltb-false 1024 _ (sym w.held.cut ∙ room))) in
+    omega (arith, w.count, within)
 
 -- a path that is cut holds any names above, too
 above_cut : (p : PathBuffer) (above names : List (List ℕ)) → p.cut ≡ true → HoldsNames p names →
@@ -90,10 +100,10 @@ parent_is g (suc j) d s l n e =
     })
 
 pub way_up : {g : Graph} {k d at step : ℕ} {p : PathBuffer} (s : ℕ) (q : PathBuffer) (w : IsOnWay g k d at step p) →
-    HasParent g w.left at s
+    p.cut ≡ false → HasParent g w.left at s
     → ((following : List (List ℕ)) → HoldsNames p following → HoldsNames q (name_in at (g.entries s) ∷ following)) →
     IsOnWay g k d s (step + 1) q
-way_up {g = g} {at = at} s q w above f = grind (arith, append_assoc)
+way_up {g = g} {at = at} s q w room above f = let more = way_room w room in grind (arith, append_assoc)
 
 -- the numbers of the graph are those of the inodes
 pub count_is : (v : Layout) (b : List ℕ) → (graph_of (volume_of v b)).count ≡ v.ncg * v.ipg

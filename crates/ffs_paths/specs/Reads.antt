@@ -1,10 +1,11 @@
 -- What a call that only reads the image leaves of a workspace, and how often it reads.
-use Rattle.std.specs.Prelude.{◌≡◌, suc, ◌+◌, ◌-◌, ◌*◌, ◌/◌, ◌<◌, ◌≤◌, ℕ, List, Option, Result, Some, true, OnOk}
-use Rattle.std.specs.{Prelude.slice_index, Option.unwrap_or}
+use Rattle.std.specs.Prelude.{◌≡◌, suc, ◌+◌, ◌-◌, ◌*◌, ◌/◌, ◌<◌, ◌≤◌, ℕ, min, List, length, Option, Result, Some}
+use Rattle.std.specs.{Prelude.{OnOk, slice_index, true}, Option.unwrap_or}
 use Rattle.ffs_image.specs.{Device.{Device, ForContents}, Known.IsContents, Reads.{ReadAfter, ReadsAtMostOnce}}
 use Rattle.ffs_image.specs.declared.image.ImageFault.{ImageFault}
 use Rattle.ffs_volume.specs.declared.{constants.TheConstants.MAXPATHLEN, Layout.Layout}
-use Rattle.ffs_volume.specs.Directories.{Graph.{Graph, level}, Naming.graph_of, Volumes.volume_of}
+use Rattle.ffs_volume.specs.Directories.{Graph.{Graph, level}, Naming.graph_of, Paths.{longest_end, names_down}}
+use Rattle.ffs_volume.specs.Directories.Volumes.{volume_of}
 use Rattle.ffs_workspace.specs.declared.workspace.Workspace.{Workspace}
 use Rattle.ffs_volume.specs.Encodings.Places.{AreNoted, IsNoted, part_size, part_in}
 use Rattle.ffs_volume.specs.Costs.DirectoryReads.{directory_cost}
@@ -100,6 +101,10 @@ ReadsAtMost v most old new = (b : List ℕ) → KnowsPlaces v old.image.contents
 abbrev pub names_to : Graph → ℕ → ℕ
 names_to g dir = unwrap_or (level g dir) 0
 
+-- how many of them a path of it takes: all, or, where it is cut, those that have room, and the first that has none
+abbrev pub names_read : Graph → ℕ → ℕ
+names_read g dir = min (names_to g dir) (suc (length (longest_end MAXPATHLEN (names_down g (names_to g dir) dir))))
+
 -- the way up to the root: a read for each name that has room in a path, and one for one that has
 -- none any more. Each name takes two bytes at least, with its slash
 abbrev pub climb_reads : ℕ
@@ -110,13 +115,13 @@ abbrev pub EachTakesAtMost : (n : ℕ) → Layout → List ℕ → Type 0
 EachTakesAtMost n v b = (dir : ℕ) → directory_cost v b dir ≤ n
 
 -- a call for the path of the directory `dir` leaves all of the workspace but its windows. Where each place is
--- noted, it makes a read at most for each name of that path, and no more than the way up takes. Where some
--- aren't, for each name it may read all of the directory that has it, too
+-- noted, it makes a read at most for each name of that path, up to the first that has no room, and no more than
+-- the way up takes. Where some aren't, for each name it may read all of the directory that has it, too
 pub record ReadsNames {T : Type 0} (v : Layout) (dir : ℕ) (old new : WorkMoment) (result : Result T ImageFault) :
     Type 0 where
   pub reads : OnlyReads v old.image new.image old.workspace new.workspace result
   pub counted : ReadsAtMost v climb_reads old new
   pub names : (b : List ℕ) → KnowsPlaces v old.image.contents old.workspace b
-      → new.reads ≤ old.reads + names_to (graph_of (volume_of v b)) dir
+      → new.reads ≤ old.reads + names_read (graph_of (volume_of v b)) dir
   pub searched : (b : List ℕ) (n : ℕ) → WithSurvey v old.image old.workspace b → EachTakesAtMost n v b
-      → new.reads ≤ old.reads + names_to (graph_of (volume_of v b)) dir * (1 + n)
+      → new.reads ≤ old.reads + names_read (graph_of (volume_of v b)) dir * (1 + n)

@@ -1,24 +1,15 @@
-use Rattle.std.proofs.Common.{◌≡◌, ◌≢◌, ◌<◌, ◌∙◌, ◌∷◌, ap, length, sym, subst, arith, ℕ, zero, suc, Some, slice_index}
-use Rattle.std.proofs.{Common.{List, Ok, ◌≤◌, ◌+◌}, lemmas.List.get_or_default, Math.Nat.{add-mul, mul-le-mul_right}}
-use Rattle.ffs_survey.proofs.ParentLaws.{root_level}
-use Rattle.ffs_volume.{proofs.LevelLaws.reached-level, specs.Directories.{Graph.{Graph, level}, Naming.graph_of}}
+use Rattle.std.proofs.Common.{◌≡◌, ◌<◌, ◌∙◌, ◌∷◌, ap, length, sym, subst, arith, ℕ, slice_index}
+use Rattle.std.proofs.{Common.{List, Ok, ◌+◌}, lemmas.List.get_or_default, Math.Nat.{add-mul, mul-le-mul_right}}
+use Rattle.ffs_volume.{proofs.LevelLaws.reached-level, specs.Directories.{Graph.{Graph}, Naming.graph_of}}
 use Rattle.ffs_volume.specs.{Directories.Volumes.volume_of, declared.Layout.Layout}
 use Rattle.ffs_paths.{specs.{Climbing.IsNameIn, Buffers.HoldsNames, NameTexts.name_bytes}, proofs.Climbed.climb_leaves}
-use Rattle.ffs_paths.proofs.{Climbed.{climb_more, few_more, few_then, noted_here, short_way}, Keeping.reads_then}
+use Rattle.ffs_paths.proofs.{Climbed.{climb_more, few_more, few_then, noted_here, short_way, step_below}, Keeping.reads_then}
 use Rattle.ffs_paths.proofs.{Keeping.tree_on, WaysUp.{parent_is, way_root, way_cut, way_long, way_up, count_is}}
 use Rattle.ffs_paths.specs.Reads.{OnlyReads}
 use Rattle.ffs_image.specs.Device.{Device}
 use Rattle.ffs_workspace.{proofs.Leaving.claims_held, specs.Found.{WithBlockCheck, WithSurvey}}
 use Rattle.ffs_workspace.specs.declared.workspace.Workspace.{Workspace}
 use Rattle.ffs_paths.proofs.path.climb.Goals as goal
-
--- a directory that isn't the root has a level above 0, so a read more is within its names
-below_root : (g : Graph) (left at : ℕ) → level g at ≡ Some left → at ≢ 2 → 0 < left
-below_root g zero at l n = absurd (n (root_level g at l))
-below_root g (suc left) at l n = omega arith
-
-step_more : (left step k : ℕ) → left + step ≡ k → 0 < left → step + 1 ≤ k
-step_more left step k e some = omega (arith, e, some)
 
 -- what the block check found is held after reads, too
 read_before : {T : Type 0} {v : Layout} {d d' : Device} {w w' : Workspace} {x : T} {b : List ℕ} →
@@ -68,7 +59,7 @@ up-preserved g c =
           (is ∙ (ap (λ w. slice_index w.parents.items c.up.at) i.reads.lists ∙ survey.tree.parents c.up.at)) in
           let name = c.as_slice.ensures.value ∙ tree_on (λ g. IsNameIn g c.up.at p (name_bytes c.find_name.new.name)) i.reads
           found.finds.name b t claims survey above.is above.dir in
-          way_up p c.push_front.new.self way above (λ following held.
+          way_up p c.push_front.new.self way c.if-path.false above (λ following held.
           subst (λ n. HoldsNames c.push_front.new.self (n ∷ following)) name (c.push_front.ensures following held));
       counted = λ b knows.
           let t = ap (λ d. d.contents) i.reads.read ∙ knows.gives_bytes in
@@ -105,8 +96,7 @@ returns-in_err-find_name-clause-leaves g c =
           let way = i.path b knows.gives_bytes knows.block_check knows.survey l.0 l.1 in
           let one = (c.in_err-find_name.ensures.leaves.counted b (ap (λ d. d.contents) i.reads.read ∙ knows.gives_bytes)
           (noted_here way.left c.up.at knows i.reads.lists way.level (omega arith))).few in
-          let above = below_root _ way.left c.up.at way.level (omega arith) in
-          rw l.1 (omega (arith, (i.counted b knows).few.count, way.steps, one.count, above));
+          omega (arith, (i.counted b knows).few.count, one.count, step_below l.1 way c.if-path.false (omega arith));
       searched = λ b n k few.
           let l = reached-level _ c.args.dir (sym (k.2.tree.reached c.args.dir) ∙ c.requires.reached) in
           let way = i.path b k.0 k.1 k.2 l.0 l.1 in
@@ -117,9 +107,8 @@ returns-in_err-find_name-clause-leaves g c =
           let over = parent_is _ way.left c.up.at p way.level (omega arith)
           (is ∙ (ap (λ w. slice_index w.parents.items c.up.at) i.reads.lists ∙ k.2.tree.parents c.up.at)) in
           let one = c.in_err-find_name.ensures.counted b (read_before i.reads k) over.dir in
-          let above = below_root _ way.left c.up.at way.level (omega arith) in
-          let more = mul-le-mul_right (1 + n) (step_more way.left c.up.step l.0 way.steps above) in
-          rw l.1 (omega (arith, i.searched b n k few, one, few p, add-mul c.up.step 1 (1 + n), more));
+          let more = mul-le-mul_right (1 + n) (step_below l.1 way c.if-path.false (omega arith)) in
+          omega (arith, i.searched b n k few, one, few p, add-mul c.up.step 1 (1 + n), more);
     }
 
 pub returns-then-at-eq-ROOTINO-clause-leaves : goal.returns-then-at-eq-ROOTINO-clause-leaves
