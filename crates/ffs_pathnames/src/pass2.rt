@@ -106,13 +106,13 @@ pub fn phase2<I: Image, W: Output>(
 }
 
 /// Begins the check of directories with no name passed: the flags of suspect inodes are cleared,
-/// and from now on such a flag says that a plain entry has named the inode. Each word of `queue` is
+/// and from now on such a flag says that a plain entry has named the inode. Each word of `words` is
 /// 0, as the survey left it: no parent entry's place is noted, and none is due. The survey's flags
 /// of other inodes stay, and say which directories are calm: these are left out. The windows hold
 /// nothing.
 fn clear_passed_and_windows(workspace: &mut Workspace)
     requires lists { HasInodeLists workspace.old }
-    requires unnoted { (x : ℕ) → slice_index workspace.old.queue.items x ≡ 0 }
+    requires unnoted { (x : ℕ) → slice_index workspace.old.words.items x ≡ 0 }
     ensures { IsNonePassed workspace.old workspace.new }
 {
     workspace.forget_windows();
