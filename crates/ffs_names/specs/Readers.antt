@@ -1,5 +1,5 @@
 -- The reader of a volume's directories that a survey goes over.
-use Rattle.std.specs.Prelude.{◌≡◌, ◌*◌, ◌≤◌, ℕ, List, [], Option, Some, slice_index, if◌then◌else◌, Bool, vec_len}
+use Rattle.std.specs.Prelude.{◌≡◌, ◌*◌, ℕ, List, [], Option, Some, slice_index, if◌then◌else◌, Bool, vec_len}
 use Rattle.std.specs.{Prelude.length, Borrow.GName}
 use Rattle.ffs_image.specs.Device.{Device}
 use Rattle.ffs_volume.specs.{declared.Layout.Layout, Directories.Roles.{RoledEntry, is_dir, roled_entries}}

@@ -1,5 +1,5 @@
 -- The name of an inode in a chunk, by its entries one after another.
-use Rattle.std.proofs.Common.{◌≡◌, ℕ, zero, suc, ◌+◌, ◌-◌, ◌*◌, ◌<◌, ◌≤◌, ◌==◌, ◌&&◌, ◌||◌, ◌∙◌, ◌++◌, Bool, true}
+use Rattle.std.proofs.Common.{◌≡◌, ℕ, zero, suc, ◌+◌, ◌-◌, ◌*◌, ◌<◌, ◌==◌, ◌&&◌, ◌||◌, ◌∙◌, ◌++◌, Bool, true}
 use Rattle.std.proofs.Common.{false, List, [], length, Some, None, ap, arith, drop, flat_map, get_or, refl, sym, take}
 use Rattle.std.{proofs.Common.{length-drop, length-take}, specs.{List.{list_any, range_with_len}, Simd.first_chunks}}
 use Rattle.std.proofs.lemmas.{Bool.{Decides.nat_tests, false≢true}, List.{append-nil, drop-drop, Folds.list_any-append}}

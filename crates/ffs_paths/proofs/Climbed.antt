@@ -1,6 +1,6 @@
 -- How far a climb to the root has come, and how often it has read.
 use Rattle.std.proofs.Common.{◌≡◌, ◌≢◌, ℕ, zero, suc, ◌+◌, ◌*◌, ◌<◌, ◌≤◌, false, List, ◌∷◌, length, ltb-false, Some}
-use Rattle.std.proofs.{Common.{arith, Option, Result, sym, ◌∙◌, true}}
+use Rattle.std.proofs.Common.{arith, mul-le-mul_right, Option, Result, sym, ◌∙◌, true}
 use Rattle.ffs_workspace.specs.Moments.{WorkMoment}
 use Rattle.ffs_image.specs.declared.image.ImageFault.{ImageFault}
 use Rattle.ffs_volume.specs.Directories.{Graph.{Graph, level}, Paths.joined, Naming.graph_of, Volumes.volume_of}

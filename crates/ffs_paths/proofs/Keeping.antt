@@ -1,5 +1,5 @@
 -- What is kept of a directory and its children stays right where only other parts of a workspace change.
-use Rattle.std.proofs.Common.{arith, ◌≡◌, List, ℕ, refl, ap, Option, Result, Ok, vec_len, Err, OnErr, OnOk}
+use Rattle.std.proofs.Common.{arith, ◌≡◌, List, ℕ, ap, Option, Result, Ok, vec_len, Err, OnErr, OnOk}
 use Rattle.ffs_workspace.specs.Moments.{WorkMoment}
 use Rattle.ffs_image.specs.{Device.Device, Reads.ReadAfter, declared.image.ImageFault.ImageFault}
 use Rattle.ffs_volume.specs.{declared.Layout.Layout, Directories.Graph.Graph}

@@ -1,5 +1,5 @@
 -- The way from a directory up to the root.
-use Rattle.std.proofs.Common.{◌≡◌, ◌≢◌, ℕ, zero, suc, ◌+◌, ◌<◌, Bool, true, List, [], ◌∷◌, ◌++◌, Some, refl, sym, ap}
+use Rattle.std.proofs.Common.{◌≡◌, ◌≢◌, ℕ, zero, suc, ◌+◌, ◌<◌, Bool, false, true, List, [], ◌∷◌, ◌++◌, Some, refl, sym, ap}
 use Rattle.std.proofs.Common.{subst, ◌∙◌, arith, append_assoc, ◌*◌, cond, length, ltb-false, ltb-true, ◌≤◌, unwrap_or, option_map}
 use Rattle.std.{specs.List.list_any, proofs.lemmas.Bool.{both_ways, and_parts, ne_eqb, cond-false, eq-eqb}}
 use Rattle.ffs_volume.{proofs.LevelLaws.{level-some, within-zero, reached-level}, specs.Directories.Graph.Graph}
@@ -35,8 +35,10 @@ pub record IsOnWay (g : Graph) (k d at step : ℕ) (p : PathBuffer) : Type 0 whe
 -- while its names have room, they are in the longest end
 pub way_room : {g : Graph} {k d at step : ℕ} {p : PathBuffer} → IsOnWay g k d at step p → p.cut ≡ false →
     step ≤ length (longest_end 1024 (names_down g k d))
-way_room {g = g} {at = at} w room = subst (λ names. length w.following ≤ length (longest_end 1024 names)) w.whole
-    (end_within 1024 (names_down g w.left at) w.following (ltb-false 1024 _ (sym w.held.cut ∙ room)))
+way_room {g = g} {at = at} w room =
+    let within = subst (λ names. length w.following ≤ length (longest_end 1024 names)) w.whole
+    (end_within 1024 (names_down g w.left at) w.following (ltb-false 1024 _ (sym w.held.cut ∙ room))) in
+    omega (arith, w.count, within)
 
 -- a path that is cut holds any names above, too
 above_cut : (p : PathBuffer) (above names : List (List ℕ)) → p.cut ≡ true → HoldsNames p names →
@@ -101,7 +103,7 @@ pub way_up : {g : Graph} {k d at step : ℕ} {p : PathBuffer} (s : ℕ) (q : Pat
     p.cut ≡ false → HasParent g w.left at s
     → ((following : List (List ℕ)) → HoldsNames p following → HoldsNames q (name_in at (g.entries s) ∷ following)) →
     IsOnWay g k d s (step + 1) q
-way_up {g = g} {at = at} s q w room above f = grind (arith, append_assoc, way_room)
+way_up {g = g} {at = at} s q w room above f = let more = way_room w room in grind (arith, append_assoc)
 
 -- the numbers of the graph are those of the inodes
 pub count_is : (v : Layout) (b : List ℕ) → (graph_of (volume_of v b)).count ≡ v.ncg * v.ipg

@@ -1,6 +1,6 @@
-use Rattle.std.proofs.Common.{◌≡◌, ◌≢◌, ◌<◌, ◌∙◌, ◌∷◌, ap, length, sym, subst, arith, ℕ, zero, suc, Some, slice_index}
-use Rattle.std.proofs.{Common.{List, Ok, ◌≤◌, ◌+◌}, lemmas.List.get_or_default, Math.Nat.{add-mul, mul-le-mul_right}}
-use Rattle.ffs_volume.{proofs.LevelLaws.reached-level, specs.Directories.{Graph.{Graph, level}, Naming.graph_of}}
+use Rattle.std.proofs.Common.{◌≡◌, ◌<◌, ◌∙◌, ◌∷◌, ap, length, sym, subst, arith, ℕ, slice_index}
+use Rattle.std.proofs.{Common.{List, Ok, ◌+◌}, lemmas.List.get_or_default, Math.Nat.{add-mul, mul-le-mul_right}}
+use Rattle.ffs_volume.{proofs.LevelLaws.reached-level, specs.Directories.{Graph.{Graph}, Naming.graph_of}}
 use Rattle.ffs_volume.specs.{Directories.Volumes.volume_of, declared.Layout.Layout}
 use Rattle.ffs_paths.{specs.{Climbing.IsNameIn, Buffers.HoldsNames, NameTexts.name_bytes}, proofs.Climbed.climb_leaves}
 use Rattle.ffs_paths.proofs.{Climbed.{climb_more, few_more, few_then, noted_here, short_way, step_below}, Keeping.reads_then}
