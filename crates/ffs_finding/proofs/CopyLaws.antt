@@ -1,13 +1,13 @@
 -- The lines of the sectors from one on, and the reads of the sectors before it.
 use Rattle.std.proofs.Common.{◌≡◌, ℕ, ◌+◌, ◌-◌, ◌*◌, ◌/◌, ◌<◌, ◌≤◌, List, [], ◌++◌, length, Some, arith, refl}
-use Rattle.std.{specs.{Prelude.count_by, List.flat_map}}
+use Rattle.std.{specs.{Prelude.count_by}}
 use Rattle.std.specs.{List.range_with_len, Int.div_ceil}
 use Rattle.ffs_volume.{specs.{Disk.Outcome.outcome, Find.Copies.asked_sectors}, proofs.OutcomeLaws.outcome_past_end}
 use Rattle.ffs_volume.specs.Find.Copies.{copies_lines, copy_lines_of, sector_count}
 use Rattle.ffs_image.specs.Device.{Device}
 use Rattle.ffs_walk.specs.declared.window.Window.{Window}
 use Rattle.ffs_maps.proofs.Counting.{count_join}
-use Rattle.ffs_finding.{specs.Copies.{IsSectorsEnd, IsWindowOf, has_magic, super_reads}, proofs.Ranges.{none}}
+use Rattle.ffs_finding.{specs.Copies.{IsSectorsEnd, IsWindowOf, has_magic, lines_from, super_reads}, proofs.Ranges.{none}}
 
 pub count_is : sector_count ≡ 4194303
 unfolding sector_count
@@ -16,10 +16,6 @@ count_is = refl
 -- the lines of a sector
 abbrev pub lines_at : (b : List ℕ) (sector : ℕ) → List (List ℕ)
 lines_at b sector = copy_lines_of sector (outcome b (Some sector))
-
--- the lines of the sectors from one on
-unfoldable pub lines_from : (b : List ℕ) (sector : ℕ) → List (List ℕ)
-lines_from b sector = flat_map (lines_at b) (range_with_len sector (sector_count + 1 - sector))
 
 pub lines_begin : (b : List ℕ) → copies_lines b ≡ lines_from b 1
 unfolding copies_lines lines_from

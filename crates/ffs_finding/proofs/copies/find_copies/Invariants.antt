@@ -3,8 +3,8 @@ use Rattle.ffs_image.specs.Device.{ForContents}
 use Rattle.ffs_image.specs.Known.{IsContents}
 use Rattle.ffs_walk.specs.Windows.{WindowHolds}
 use Rattle.ffs_volume.specs.Find.Copies.{copies_lines}
-use Rattle.ffs_finding.specs.{Outcome.PrintedTo, Copies.{IsWindowOf, window_bytes}}
-use Rattle.ffs_finding.proofs.CopyLaws.{lines_from, magics}
+use Rattle.ffs_finding.specs.{Outcome.PrintedTo, Copies.{IsWindowOf, lines_from, window_bytes}}
+use Rattle.ffs_finding.proofs.CopyLaws.{magics}
 use Rattle.ffs_finding.proofs.copies.find_copies.Given as goal
 
 abbrev pub invariant-loop-sector : goal.invariant-loop-sector
