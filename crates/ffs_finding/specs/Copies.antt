@@ -78,8 +78,8 @@ pub record FindsAt (sector : ℕ) (before after : Window) (old new : Moment) (re
   pub failed : FailsIn (λ at. (new.out ≡ old.out) × ForContents old.image.contents (λ b. IsReadForCopy sector at)) result
 
 -- the lines of the sectors from one on
-unfoldable pub lines_from : (image : List ℕ) (sector : ℕ) → List (List ℕ)
-lines_from image sector = flat_map (λ s. copy_lines_of s (outcome image (Some s)))
+unfoldable pub copies_from : (image : List ℕ) (sector : ℕ) → List (List ℕ)
+copies_from image sector = flat_map (λ s. copy_lines_of s (outcome image (Some s)))
     (range_with_len sector (sector_count + 1 - sector))
 
 -- a read failed in this sector: it is one for the superblock at some sector, and just the lines of lesser sectors
@@ -87,7 +87,7 @@ lines_from image sector = flat_map (λ s. copy_lines_of s (outcome image (Some s
 pub record FailsBeforeCopy (knows : List ℕ → Type 0) (old new : Sink) (at : ℕ) : Type 0 where
   pub sector : ℕ
   pub failed : ForBytes knows (λ b. IsReadForCopy sector at)
-  pub printed : PrintedTo knows (λ b. lines_from b sector) copies_lines old new
+  pub printed : PrintedTo knows (λ b. copies_from b sector) copies_lines old new
 
 -- the image was read once for each window of 65,536 bytes at most, and once for each magic number; any
 -- image, also one that gives other bytes each time, at most twice for each of its sectors that `-b` takes
