@@ -9,7 +9,7 @@ use Rattle.ffs_report.specs.{Fails.FailsIn, Sink.Sink, declared.fault.RunFault.{
 use Rattle.ffs_layout.specs.Super.{ReadsSuper}
 use Rattle.ffs_walk.specs.{Windows.WindowHolds, declared.window.Window.Window}
 use Rattle.ffs_finding.{specs.Copies.{FailsBeforeCopy, IsReadForCopy, has_magic, copies_from, super_reads}, proofs.Magics.no_magic}
-use Rattle.ffs_finding.specs.Outcome.{PrintedTo}
+use Rattle.ffs_finding.specs.Outcome.{PrintedOf}
 
 -- no magic number, no line
 pub no_line : (d : Device) (sector : ℕ) → IsSized d → sector * 512 + 1376 ≤ d.size →
@@ -40,7 +40,7 @@ super_unread is same (inr (unread, right)) b k =
 
 -- where a read for a sector failed, the lines of lesser ones were printed
 pub fails_before : (knows : List ℕ → Type 0) (sector : ℕ) (a b c : Sink) (fault : RunFault) →
-    PrintedTo knows (λ bytes. copies_from bytes sector) copies_lines a b →
+    PrintedOf knows (λ bytes. copies_from bytes sector) copies_lines a b →
     FailsIn {T = Unit {0}} (λ at. (c ≡ b) × ForBytes knows (λ bytes. IsReadForCopy sector at)) (Err fault) →
     FailsIn {T = Unit {0}} (FailsBeforeCopy knows a c) (Err fault)
 fails_before knows sector a b c (Read fault) p q = record { sector = sector; failed = q.1; printed = rw q.0 p }

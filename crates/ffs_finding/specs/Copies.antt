@@ -8,7 +8,7 @@ use Rattle.ffs_volume.specs.declared.constants.TheConstants.{SUPERBLOCK_BYTES}
 use Rattle.ffs_report.specs.{Fails.FailsIn, Sink.Sink, declared.fault.RunFault.RunFault}
 use Rattle.ffs_image.specs.Known.{ForBytes, IsContents}
 use Rattle.ffs_check.specs.{Moment.Moment, declared.words.TheConstants.SECTOR_END}
-use Rattle.ffs_finding.specs.{Outcome.{Finds, PrintedTo}, declared.copies.TheConstants.SECTORS_BEFORE_MAGIC}
+use Rattle.ffs_finding.specs.{Outcome.{Finds, PrintedOf}, declared.copies.TheConstants.SECTORS_BEFORE_MAGIC}
 use Rattle.ffs_walk.specs.{Windows.{FailsAt, WindowHolds}, declared.window.Window.Window}
 
 -- how many bytes are read at a time
@@ -87,7 +87,7 @@ copies_from image sector = flat_map (λ s. copy_lines_of s (outcome image (Some 
 pub record FailsBeforeCopy (knows : List ℕ → Type 0) (old new : Sink) (at : ℕ) : Type 0 where
   pub sector : ℕ
   pub failed : ForBytes knows (λ b. IsReadForCopy sector at)
-  pub printed : PrintedTo knows (λ b. copies_from b sector) copies_lines old new
+  pub printed : PrintedOf knows (λ b. copies_from b sector) copies_lines old new
 
 -- the image was read once for each window of 65,536 bytes at most, and once for each magic number; any
 -- image, also one that gives other bytes each time, at most twice for each of its sectors that `-b` takes
