@@ -1,13 +1,13 @@
 -- The lines of the sectors from one on, and the reads of the sectors before it.
 use Rattle.std.proofs.Common.{◌≡◌, ℕ, ◌+◌, ◌-◌, ◌*◌, ◌/◌, ◌<◌, ◌≤◌, List, [], ◌++◌, length, Some, arith, refl}
-use Rattle.std.{specs.{Prelude.count_by, List.flat_map}}
+use Rattle.std.{specs.{Prelude.count_by}}
 use Rattle.std.specs.{List.range_with_len, Int.div_ceil}
 use Rattle.ffs_volume.{specs.{Disk.Outcome.outcome, Find.Copies.asked_sectors}, proofs.OutcomeLaws.outcome_past_end}
 use Rattle.ffs_volume.specs.Find.Copies.{copies_lines, copy_lines_of, sector_count}
 use Rattle.ffs_image.specs.Device.{Device}
 use Rattle.ffs_walk.specs.declared.window.Window.{Window}
 use Rattle.ffs_maps.proofs.Counting.{count_join}
-use Rattle.ffs_finding.{specs.Copies.{IsSectorsEnd, IsWindowOf, has_magic, super_reads}, proofs.Ranges.{none}}
+use Rattle.ffs_finding.{specs.Copies.{IsSectorsEnd, IsWindowOf, has_magic, copies_from, super_reads}, proofs.Ranges.{none}}
 
 pub count_is : sector_count ≡ 4194303
 unfolding sector_count
@@ -17,21 +17,17 @@ count_is = refl
 abbrev pub lines_at : (b : List ℕ) (sector : ℕ) → List (List ℕ)
 lines_at b sector = copy_lines_of sector (outcome b (Some sector))
 
--- the lines of the sectors from one on
-unfoldable pub lines_from : (b : List ℕ) (sector : ℕ) → List (List ℕ)
-lines_from b sector = flat_map (lines_at b) (range_with_len sector (sector_count + 1 - sector))
-
-pub lines_begin : (b : List ℕ) → copies_lines b ≡ lines_from b 1
-unfolding copies_lines lines_from
+pub lines_begin : (b : List ℕ) → copies_lines b ≡ copies_from b 1
+unfolding copies_lines copies_from
 lines_begin b = grind arith
 
 pub lines_next : (b : List ℕ) (sector : ℕ) → sector < 4194304 →
-    lines_from b sector ≡ lines_at b sector ++ lines_from b (sector + 1)
-unfolding lines_from
+    copies_from b sector ≡ lines_at b sector ++ copies_from b (sector + 1)
+unfolding copies_from
 lines_next b sector h = grind (arith, count_is)
 
-pub lines_end : (b : List ℕ) (sector end : ℕ) → IsSectorsEnd (length b) end → end ≤ sector → lines_from b sector ≡ []
-unfolding lines_from
+pub lines_end : (b : List ℕ) (sector end : ℕ) → IsSectorsEnd (length b) end → end ≤ sector → copies_from b sector ≡ []
+unfolding copies_from
 lines_end b sector end h past = grind (arith, none, outcome_past_end, count_is)
 
 -- ---- reads

@@ -1,5 +1,5 @@
 -- A target found in a volume, as the command that asks for it.
-use Rattle.std.proofs.Common.{◌≡◌, ◌∙◌, ◌*◌, ◌+◌, ◌≤◌, ℕ, Bool, List, Option, Result, Ok, Err, sym, ap, arith, inl, inr}
+use Rattle.std.proofs.Common.{◌≡◌, ◌*◌, ◌+◌, ◌≤◌, ℕ, Bool, List, Option, Result, Ok, Err, sym, ap, arith, inl, inr}
 use Rattle.std.{proofs.Common.{refl, is_ok}, specs.Prelude.⊤}
 use Rattle.ffs_check.specs.{Moment.Moment, Taken.AsksMemory}
 use Rattle.ffs_image.specs.Device.{Device, ForContents}
@@ -45,16 +45,16 @@ knowing_more are_defects d reads reads' a m (Err NoMemory) more p = p
 
 module _ (target : Target) (sector : Option ℕ) (s : Superblock) (d : Device)
     (accepted : ForContents d.contents (λ b. outcome b sector ≡ Ok s)) where
-  grounds : (d' : Device) (held held' : Account) (r : Result Bool FindFault) →
+  grounds : (reads : ℕ) (a : Sink) (m : Moment) (held held' : Account) (r : Result Bool FindFault) →
       GroundsOf r ⊤ (λ fault. ⊥) (IsSectorFor target sector s) ⊤ → TakesForTarget target s.layout held held' r →
       GroundsOf r (ForContents d.contents (IsAcceptedIn (InVolume target sector)))
-      (IsRefusedBy (InVolume target sector) d d')
-      (λ at. ForContents d.contents (λ b. IsReadFor (InVolume target sector) b at)) (RefusedOneMore held held')
-  grounds d' held held' (Ok defect) p t = λ b k. ap is_ok (accepted b k)
-  grounds d' held held' (Err (Refused fault)) p t = absurd p
-  grounds d' held held' (Err (Failed (Read fault))) p t = λ b k. rw (accepted b k) p
-  grounds d' held held' (Err (Failed (Out fault))) p t = tt
-  grounds d' held held' (Err NoMemory) p t = refused target s.layout held held' t
+      (IsRefusedBy (InVolume target sector) d m.image)
+      (IsReadFor (InVolume target sector) (record { image = d; reads = reads; out = a }) m) (RefusedOneMore held held')
+  grounds reads a m held held' (Ok defect) p t = λ b k. ap is_ok (accepted b k)
+  grounds reads a m held held' (Err (Refused fault)) p t = absurd p
+  grounds reads a m held held' (Err (Failed (Read fault))) p t = λ b k. rw (accepted b k) p
+  grounds reads a m held held' (Err (Failed (Out fault))) p t = tt
+  grounds reads a m held held' (Err NoMemory) p t = refused target s.layout held held' t
 
 asked : (bytes : ℕ) (held held' : Account) (r : Result Bool FindFault) → IsGranted bytes held held' r →
     AsksMemory held held' bytes
@@ -83,7 +83,7 @@ pub answered : (target : Target) (sector : Option ℕ) (s : Superblock) (d : Dev
 answered target sector s d before between a m held held' r accepted sound inside opened p t = record {
   answer = knowing_more _ d between before a m r
       (λ b k. ((k, accepted b k), sym (ap (lines_by (target_lines target sector b)) (accepted b k)))) p.answer;
-  grounds = grounds target sector s d accepted m.image held held' r p.grounds t;
+  grounds = grounds target sector s d accepted before a m held held' r p.grounds t;
   memory = takes target sector s d held held' r accepted sound inside t;
   reads = inr (record {
     found = s;

@@ -1,15 +1,15 @@
 -- How magic numbers are found, window by window.
-use Rattle.std.specs.Prelude.{◌≡◌, ℕ, ◌+◌, ◌-◌, ◌*◌, ◌/◌, ◌<◌, ◌≤◌, min, Bool, List, Some, is_some, Result, IfOk, OnOk}
-use Rattle.std.specs.{Prelude.{vec_len, count_by, if◌then◌else◌}, Int.div_ceil}
+use Rattle.std.specs.Prelude.{◌≡◌, ◌⊎◌, ℕ, ◌+◌, ◌-◌, ◌*◌, ◌/◌, ◌<◌, ◌≤◌, min, Bool, List, Some, is_some, Result, IfOk, OnOk}
+use Rattle.std.specs.{Prelude.{vec_len, count_by, if◌then◌else◌}, Int.div_ceil, List.{flat_map, range_with_len}}
 use Rattle.ffs_image.specs.{Device.{Device, ForContents}, Reads.ReadAfter, declared.image.ImageFault.ImageFault}
 use Rattle.ffs_volume.specs.{Disk.{Superblock.order_of, Outcome.{outcome, super_bytes}}, Find.Copies.asked_sectors}
-use Rattle.ffs_volume.specs.{Find.Copies.{copy_lines_of, sector_count}, declared.constants.TheConstants.DEV_BSIZE}
+use Rattle.ffs_volume.specs.{Find.Copies.{copies_lines, copy_lines_of, sector_count}, declared.constants.TheConstants.DEV_BSIZE}
 use Rattle.ffs_volume.specs.declared.constants.TheConstants.{SUPERBLOCK_BYTES}
-use Rattle.ffs_report.specs.declared.fault.RunFault.{RunFault}
-use Rattle.ffs_image.specs.Known.{IsContents}
+use Rattle.ffs_report.specs.{Fails.FailsIn, Sink.Sink, declared.fault.RunFault.RunFault}
+use Rattle.ffs_image.specs.Known.{ForBytes, IsContents}
 use Rattle.ffs_check.specs.{Moment.Moment, declared.words.TheConstants.SECTOR_END}
-use Rattle.ffs_finding.specs.{Outcome.Finds, declared.copies.TheConstants.SECTORS_BEFORE_MAGIC}
-use Rattle.ffs_walk.specs.{Windows.WindowHolds, declared.window.Window.Window}
+use Rattle.ffs_finding.specs.{Outcome.{Finds, PrintedOf}, declared.copies.TheConstants.SECTORS_BEFORE_MAGIC}
+use Rattle.ffs_walk.specs.{Windows.{FailsAt, WindowHolds}, declared.window.Window.Window}
 
 -- how many bytes are read at a time
 abbrev pub window_bytes : ℕ
@@ -46,10 +46,11 @@ pub record WindowAfter {T E : Type 0} (d d' : Device) (sector : ℕ) (after : Wi
   pub room : vec_len after.buffer ≡ window_bytes
   pub holds : WindowHolds d'.contents after
 
--- the answer is whether a magic number is there
+-- the answer is whether a magic number is there. A read that failed is of the window
 pub record FindsMagic (d d' : Device) (sector : ℕ) (after : Window) (result : Result Bool ImageFault) : Type 0 where
   pub answer : IfOk result (λ found. ForContents d.contents (λ b. found ≡ has_magic b sector))
   pub read : ReadAfter d d' result
+  pub failed : FailsAt (window_place sector) result
   pub window : WindowAfter d d' sector after result
 
 -- one read at most, and none where the window was that of the sector before
@@ -61,6 +62,10 @@ pub record ReadsWindow (d : Device) (sector : ℕ) (before : Window) (reads read
 abbrev pub super_reads : (image : List ℕ) (sector : ℕ) → ℕ
 super_reads image sector = if has_magic image sector then 1 else 0
 
+-- a read for the superblock at a sector is of that, or of the window in which its magic number would lie
+abbrev pub IsReadForCopy : (sector at : ℕ) → Type 0
+IsReadForCopy sector at = (at ≡ sector) ⊎ (at ≡ window_place sector / DEV_BSIZE)
+
 -- the line of a sector was printed, where a superblock is accepted there, or what a fault leaves of it
 pub record FindsAt (sector : ℕ) (before after : Window) (old new : Moment) (result : Result (Unit {0}) RunFault) :
     Type 0 where
@@ -70,6 +75,19 @@ pub record FindsAt (sector : ℕ) (before after : Window) (old new : Moment) (re
   pub again : IsWindowOf old.image sector before
       → ForContents old.image.contents (λ b. new.reads ≤ old.reads + super_reads b sector)
   pub any : new.reads ≤ old.reads + 2
+  pub failed : FailsIn (λ at. (new.out ≡ old.out) × ForContents old.image.contents (λ b. IsReadForCopy sector at)) result
+
+-- the lines of the sectors from one on
+unfoldable pub copies_from : (image : List ℕ) (sector : ℕ) → List (List ℕ)
+copies_from image sector = flat_map (λ s. copy_lines_of s (outcome image (Some s)))
+    (range_with_len sector (sector_count + 1 - sector))
+
+-- a read failed in this sector: it is one for the superblock at some sector, and just the lines of lesser sectors
+-- were printed
+pub record FailsBeforeCopy (knows : List ℕ → Type 0) (old new : Sink) (at : ℕ) : Type 0 where
+  pub sector : ℕ
+  pub failed : ForBytes knows (λ b. IsReadForCopy sector at)
+  pub printed : PrintedOf knows (λ b. copies_from b sector) copies_lines old new
 
 -- the image was read once for each window of 65,536 bytes at most, and once for each magic number; any
 -- image, also one that gives other bytes each time, at most twice for each of its sectors that `-b` takes

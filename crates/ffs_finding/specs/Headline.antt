@@ -19,7 +19,7 @@ use Rattle.ffs_finding.specs.declared.request.Target.{Target, TheVariants.{Inode
 use Rattle.ffs_finding.specs.declared.request.Command.{Command, TheVariants.{Copies, InVolume}}
 use Rattle.ffs_finding.specs.declared.find.FindFault.{FindFault, TheVariants.{Refused, Failed, NoMemory}}
 use Rattle.ffs_finding.specs.{Outcome.{Finds, PrintedOf, any_line}, Fields.WithSuper}
-use Rattle.ffs_finding.specs.{Copies.{ReadsCopies, window_bytes}}
+use Rattle.ffs_finding.specs.{Copies.{FailsBeforeCopy, ReadsCopies, window_bytes}}
 use Rattle.ffs_volume.specs.Disk.Areas.{FitsIn}
 use Rattle.ffs_workspace.specs.Ready.{workspace_requests}
 
@@ -126,11 +126,12 @@ IsRefusedBy Copies d d' fault = ⊥
 IsRefusedBy (InVolume target sector) d d' fault =
     ReadsSuper d d' sector (Err fault) × ((at : ℕ) → fault ≡ CannotRead at → IsUnreadable d d' sector at)
 
--- the sector at which a read for a command may fail, in these bytes: after its superblock that of its target. Of
--- `copies` nothing is said
-abbrev pub IsReadFor : Command → (image : List ℕ) → (at : ℕ) → Type 0
-IsReadFor Copies image at = ⊤
-IsReadFor (InVolume target sector) image at = IfOk (outcome image sector) (λ s. IsSectorFor target sector s at)
+-- the sector at which a read for a command may fail: after its superblock that of its target. For `copies` it is a read
+-- for the superblock at some sector, and just the lines of lesser sectors were printed
+abbrev pub IsReadFor : Command → (old new : Moment) → (at : ℕ) → Type 0
+IsReadFor Copies old new at = FailsBeforeCopy (IsContents old.image.contents) old.out new.out at
+IsReadFor (InVolume target sector) old new at = ForContents old.image.contents
+    (λ b. IfOk (outcome b sector) (λ s. IsSectorFor target sector s at))
 
 -- what a command takes of the memory: `copies` a window, `lost` and `owner` the workspace of a check
 abbrev pub TakesMemory : Command → Device → (before after : Account) → Type 0
@@ -172,7 +173,7 @@ pub record AnswersCommand (command : Command) (old new : Moment) (before after :
       new result
   pub grounds : GroundsOf result (ForContents old.image.contents (IsAcceptedIn command))
       (IsRefusedBy command old.image new.image)
-      (λ at. ForContents old.image.contents (λ b. IsReadFor command b at)) (RefusedOneMore before after)
+      (IsReadFor command old new) (RefusedOneMore before after)
   pub memory : TakesMemory command old.image before after
   pub reads : ReadsForCommand command old.image old.reads new.reads
 

@@ -4,7 +4,7 @@
 --
 --   run                    RunsProgramFlushed of ffs_check, over `ffs_find` (`Run`), and so IsFoundIn
 --   find_in                FindsCommand (`Headline`)
---   find_copies            Finds (`Outcome`), ReadsCopies (`Copies`)
+--   find_copies            Finds (`Outcome`), ReadsCopies and FailsBeforeCopy (`Copies`)
 --   find_inode             Finds
 --   find_owner             Finds, where phase 1 was run (WithBlocks of `Claims`); of its parts FindsAllKeepers and
 --                          FindsKeeper (`Keepers`)

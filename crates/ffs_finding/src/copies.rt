@@ -4,10 +4,10 @@ ghost use Rattle.ffs_image.specs.Reads.{ReadsAtMostOnce};
 ghost use Rattle.ffs_volume.specs.{Disk.{Outcome.outcome, Numbers.u32_at as u32_in}, declared.Order.TheVariants.Little};
 ghost use Rattle.ffs_volume.specs.declared.{Order.TheVariants.Big, constants.TheConstants.FS_MAGIC};
 ghost use Rattle.ffs_volume.specs.Find.Copies.{copies_lines, copy_lines_of, copy_text, order_word, which_text};
-ghost use Rattle.ffs_report.specs.Sink.{Prints};
+ghost use Rattle.ffs_report.specs.{Fails.FailsIn, Sink.Prints};
 ghost use Rattle.ffs_image.specs.Known.{IsContents};
 ghost use Rattle.ffs_check.specs.Moment.{moment};
-ghost use Rattle.ffs_finding.specs.{Outcome.Finds, Copies.{CanFindAt, IsSectorsEnd, FindsAt, FindsMagic}};
+ghost use Rattle.ffs_finding.specs.{Outcome.Finds, Copies.{CanFindAt, FailsBeforeCopy, FindsAt, FindsMagic, IsSectorsEnd}};
 ghost use Rattle.ffs_finding.specs.Copies.{ReadsCopies, ReadsWindow, window_bytes, window_length, window_place};
 ghost use Rattle.ffs_walk.specs.Windows.{WindowHolds};
 
@@ -164,6 +164,8 @@ pub fn find_copies<I: Image, W: Output>(
         (moment I.Image W.Output image.old out.old) (moment I.Image W.Output image.new out.new)
         result }
     ensures reads { ReadsCopies (I.device image.old) (I.reads image.old) (I.reads image.new) }
+    ensures before_fault { FailsIn (FailsBeforeCopy (IsContents (I.device image.old).contents)
+        (W.sink out.old) (W.sink out.new)) result }
     ensures room { vec_len window.new.buffer ≡ window_bytes }
     ensures holds { WindowHolds (I.device image.new).contents window.new }
 {

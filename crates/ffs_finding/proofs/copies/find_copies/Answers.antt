@@ -2,7 +2,7 @@ use Rattle.std.proofs.Common.{◌≡◌, ◌+◌, ◌-◌, ℕ, arith, ap, subst
 use Rattle.std.proofs.{Common.{inl, inr}, lemmas.{Result.err_from_is_err_and, Bool.cases_eq}}
 use Rattle.ffs_report.{proofs.Sinks.took_nil}
 use Rattle.ffs_finding.{specs.Copies.{IsWindowOf}, proofs.Printing.{part, part_fault}}
-use Rattle.ffs_finding.proofs.{CopyLaws.{count_is, lines_begin, lines_next, lines_end, magics}}
+use Rattle.ffs_finding.proofs.{CopyLaws.{count_is, lines_begin, lines_next, lines_end, magics}, CopySteps.fails_before}
 use Rattle.ffs_finding.proofs.CopyLaws.{reads_next, reads_all}
 use Rattle.ffs_finding.proofs.copies.find_copies.Goals as goal
 
@@ -20,6 +20,13 @@ returns-in_err-find_copy-clause-prints g c =
           (λ b k. lines_next b c.loop-sector.sector (omega (arith, c.sectors_end-sector-end.ensures.below)))
           e.found.text;
     })
+
+pub returns-in_err-find_copy-clause-before_fault : goal.returns-in_err-find_copy-clause-before_fault
+returns-in_err-find_copy-clause-before_fault g c =
+    let p = err_from_is_err_and c.from_residual.result c.from_residual.ensures.1 in
+    let inv = c.loop-sector.invariant in
+    let e = rw inv.device at c.in_err-find_copy.ensures in
+    rw (p.1, p.2) (fails_before _ c.loop-sector.sector _ _ _ c.in_err-find_copy.field-0.0 inv.printed e.failed)
 
 pub returns-in_err-find_copy-clause-reads : goal.returns-in_err-find_copy-clause-reads
 returns-in_err-find_copy-clause-reads g c =

@@ -1,7 +1,7 @@
 use Rattle.std.proofs.{Common.{◌∙◌, arith, rules, sym, ap}, lemmas.Result.err_from_is_err_and}
 use Rattle.ffs_volume.specs.Find.Copies.{copy_lines_of}
 use Rattle.ffs_finding.proofs.Printing.{one, one_broken, prints_all, prints_none, stops_all, reads_first}
-use Rattle.ffs_finding.proofs.CopySteps.{no_line, one_read, same_super, holds_on}
+use Rattle.ffs_finding.proofs.CopySteps.{no_line, one_read, same_super, super_unread, holds_on}
 use Rattle.ffs_finding.proofs.copies.find_copy.Goals as goal
 
 pub returns-in_err-found : goal.returns-in_err-found
@@ -22,6 +22,7 @@ returns-then-not-found g c =
       counted = λ b k. omega (arith, read.counted);
       again = λ at b k. omega (arith, read.again at);
       any = omega (arith, read.counted);
+      failed = tt;
     }
 
 pub returns-in_err-print_copy-in-Ok : goal.returns-in_err-print_copy-in-Ok
@@ -43,6 +44,7 @@ returns-in_err-print_copy-in-Ok g c =
       counted = λ b k. let reads = more b k in omega (arith, read.counted, reads, c.in-Ok.ensures.reads);
       again = λ at b k. let reads = more b k in omega (arith, read.again at, reads, c.in-Ok.ensures.reads);
       any = omega (arith, read.counted, c.in-Ok.ensures.reads);
+      failed = tt;
     })
 
 pub returns-in_ok-print_copy-in-Ok : goal.returns-in_ok-print_copy-in-Ok
@@ -62,7 +64,11 @@ returns-in_ok-print_copy-in-Ok g c =
       counted = λ b k. let reads = more b k in omega (arith, read.counted, reads, c.in-Ok.ensures.reads);
       again = λ at b k. let reads = more b k in omega (arith, read.again at, reads, c.in-Ok.ensures.reads);
       any = omega (arith, read.counted, c.in-Ok.ensures.reads);
+      failed = tt;
     }
 
 pub returns-in-Err-CannotRead : goal.returns-in-Err-CannotRead
-returns-in-Err-CannotRead g c = grind (arith, reads_first)
+returns-in-Err-CannotRead g c =
+    let failed = c.in-Err-CannotRead in
+    let at = super_unread {at = failed.sector} (cc) c.in_ok-found.ensures.answer.read failed.ensures.answer in
+    grind (arith, reads_first, at)

@@ -10,6 +10,7 @@ returns-clause-answer g c =
           ∙ magic_there b c.bytes.result.now c.args.sector _ _ _ (c.bytes.ensures ∙ fills.bytes b k) (omega arith)
           (omega arith);
       read = fills.read;
+      failed = tt;
       window = record {
         at = record { place = omega (arith, fills.place.0); length = omega (arith, fills.place.1) };
         room = omega (arith, fills.room, c.requires.room);
