@@ -80,7 +80,7 @@ pub offers_then : {l : Layout} {u v w : Workspace} → OffersOnly l u v → Offe
 offers_then p q = let only = only_then p.claiming q.claiming in grind arith
 
 pub reports_none : {l : Layout} {w : Workspace} → IsFor l w → ReportsOnly l w w
-reports_none {w = w} made = record { made = made; windows = refl; claims = claims_none w }
+reports_none {w = w} made = record { made = made; windows = refl; stays = claims_none w }
 
 pub offers_reported_none : {l : Layout} {w : Workspace} → IsFor l w → OffersReportedOnly l w w
 offers_reported_none made = record { reporting = reports_none made; runs = refl }

@@ -40,7 +40,7 @@ pub record Phase1bKeeps (old new : Workspace) : Type 0 where
 pub record ReportsOnly (v : Layout) (old new : Workspace) : Type 0 where
   pub made : IsFor v new
   pub windows : new.windows ≡ old.windows
-  pub claims : Phase1bKeeps old new
+  pub stays : Phase1bKeeps old new
 
 -- what the offers of a Run leave: what reporting does, and no Run more is looked at
 pub record OffersReportedOnly (v : Layout) (old new : Workspace) : Type 0 where
@@ -100,4 +100,4 @@ pub record RewalkLeaves {T : Type 0} (v : Layout) (d d' : Device) (old new : Wor
     : Type 0 where
   pub image : ImageAfter d d' result
   pub ready : CanRead v d' new
-  pub claims : Phase1bKeeps old new
+  pub stays : Phase1bKeeps old new

@@ -55,8 +55,8 @@ pub record CanCompareMaps (v : Layout) (in_use : InUse) (c : ℕ) (block : List 
   pub maps : HasMaps v in_use.fragments.now.size in_use.kinds.now c
   pub block_length : length block ≡ v.cgsize
 
--- so can all records of group c: its right counts are there too, and its record of the summary area, of CSUM_SIZE
--- bytes
+-- all records of group c can be compared: its maps can, its right counts are there too, and its record of the
+-- summary area, which has 16 bytes (CSUM_SIZE)
 pub record CanCompareGroup (v : Layout) (in_use : InUse) (c : ℕ) (counts : Counts) (summary block : List ℕ) :
     Type 0 where
   pub maps : CanCompareMaps v in_use c block

@@ -35,7 +35,7 @@ pub record FlagsOnlyCalm (v : Layout) (b : List ℕ) (w : Workspace) : Type 0 wh
       (is_directory_of_right_shape (volume_of v b)) w.flags.items
 
 -- what a survey finds is held: also how often each inode is referred to, counted once. It counts as made, and
--- the claims are held still, so that another survey finds the same; and only calm directories have a flag
+-- what the block check found is held still, so that another survey finds the same; and only calm directories have a flag
 pub record IsSurveyed (v : Layout) (b : List ℕ) (w : Workspace) : Type 0 where
   pub survey : HoldsSurvey v b w
   pub references : HoldsReferences v b w

@@ -28,7 +28,7 @@ pub record KnowsBefore (v : Layout) (contents : Option (List ℕ)) (w : Workspac
   pub survey : HoldsSurvey v b w
   pub passed : RemembersBefore (volume_of v b) dir (passed_of w)
 
--- and a place is noted of the parent entry of each directory that is reached and isn't the root
+-- KnowsBefore, and a place is noted of the parent entry of each directory that is reached and isn't the root
 pub record KnowsBeforeNoted (v : Layout) (contents : Option (List ℕ)) (w : Workspace) (dir : ℕ) (b : List ℕ) : Type 0 where
   pub before : KnowsBefore v contents w dir b
   pub noted : AreNoted v b w.words.items

@@ -33,11 +33,11 @@ IsEnough vol verdict dir number name attr path directory =
 abbrev pub roled_value : DirectoryEntry → RoledEntry
 roled_value e = record { role = e.role; entry = entry_value e.entry }
 
--- what is reported of it, by what a workspace remembers
+-- what is reported of an entry, by what a workspace remembers
 abbrev pub roled_lines_by : Volume → Workspace → DirectoryEntry → List TreeMessage
 roled_lines_by vol w e = roled_reported vol e.dir (passed_of w) (roled_value e)
 
--- of a plain one, and of an extra one
+-- what is reported of a plain entry, and of an extra one
 abbrev pub plain_lines_by : Volume → Workspace → DirectoryEntry → List TreeMessage
 plain_lines_by vol w e =
     plain_lines vol e.dir (entry_value e.entry) (verdict_at_reading vol e.dir (passed_of w) (entry_value e.entry))

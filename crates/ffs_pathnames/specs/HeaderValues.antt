@@ -26,7 +26,7 @@ pub record AreFirstTwo (one two : Option Entry) (started : Bool) (order : Order)
   pub first : one ≡ started_entry 0 started order start
   pub second : two ≡ started_entry 1 started order start
 
--- the bytes are those of the context of a header's directory, and the header shows its inode
+-- the bytes are those of KnowsNoted for a header's directory, and the header shows its inode
 abbrev pub KnowsHeader : Layout → Device → Workspace → HeaderFacts → List ℕ → Type 0
 KnowsHeader v d w h b =
     KnowsNoted v d.contents w h.attr.number b

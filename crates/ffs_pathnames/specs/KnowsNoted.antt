@@ -23,7 +23,7 @@ pub record KnowsNoted (v : Layout) (contents : Option (List ℕ)) (w : Workspace
 abbrev pub BeginsPathOf : Graph → ℕ → EntryTexts → Type 0
 BeginsPathOf g dir t = IsTrue t.path_settled → IsPathOf g dir t.paths.directory
 
--- a directory's context, and the path that is settled, if any, is that of the directory `dir`
+-- the bytes are those of KnowsNoted, and the path that is settled, if any, is that of the directory `dir`
 pub record KnowsPath (v : Layout) (contents : Option (List ℕ)) (w : Workspace) (dir : ℕ) (t : EntryTexts)
     (b : List ℕ) : Type 0 where
   pub knows : KnowsNoted v contents w dir b
@@ -34,7 +34,7 @@ abbrev pub KeepsPath : Layout → Device → Workspace → (dir : ℕ) → (old 
 KeepsPath v d w dir old new =
     ForBytes (KnowsPath v d.contents w dir old) (λ b. BeginsPathOf (graph_of (volume_of v b)) dir new)
 
--- the bytes are those of a directory's context, and the inode that was read is that of the directory
+-- the bytes are those of KnowsNoted, and the inode that was read is that of the directory
 abbrev pub KnowsDirectory : Layout → Device → Workspace → Directory → List ℕ → Type 0
 KnowsDirectory v d w directory b =
     KnowsNoted v d.contents w directory.number b × (directory.inode ≡ inode_of v b directory.number)

@@ -8,7 +8,7 @@ use Rattle.ffs_pathnames.specs.{declared.look.Directory.Directory, KnowsNoted.{K
 use Rattle.ffs_pathnames.specs.{Before.KnowsBeforeNoted, PassedRight.RemembersBefore}
 use Rattle.ffs_pathnames.specs.Sees.{passed_of}
 
--- the bytes are those of a directory's context, and the reads that are left suffice for a first look at it
+-- the bytes are those of KnowsNoted, and the reads that are left suffice for a first look at the directory
 abbrev pub KnowsForLook : Layout → Device → Workspace → (dir left : ℕ) → List ℕ → Type 0
 KnowsForLook v d w dir left b = KnowsNoted v d.contents w dir b × (directory_cost v b dir ≤ left)
 
@@ -17,7 +17,7 @@ abbrev pub KnowsForRuns : Layout → Device → Workspace → Directory → (lef
 KnowsForRuns v d w directory left b =
     KnowsDirectory v d w directory b × (directory_runs v b directory.number ≤ left)
 
--- the bytes are those of a directory's context, what is remembered of the names that were passed
+-- the bytes are those of KnowsNoted, what is remembered of the names that were passed
 -- before it is right, and the reads that are left suffice for a first look at it and a second reading
 pub record KnowsForBoth (v : Layout) (d : Device) (w : Workspace) (dir left : ℕ) (b : List ℕ) : Type 0 where
   pub knows : KnowsNoted v d.contents w dir b

@@ -1,4 +1,4 @@
--- When paths of directories can be made, too, and what calls leave.
+-- When a directory can be checked: its lines and paths can be made. And what calls leave.
 use Rattle.std.specs.Prelude.{◌≡◌, ◌+◌, ◌*◌, ◌<◌, ◌≤◌, ℕ, Bool, IsTrue, Result, Ok, Err}
 use Rattle.ffs_workspace.specs.Moments.{WorkMoment}
 use Rattle.ffs_image.specs.{Device.Device, declared.image.ImageFault.ImageFault}

@@ -64,7 +64,7 @@ pub record CanStamp (i : Inodes) (x : ℕ) (words : List ℕ) : Type 0 where
   pub each : length words ≡ length i.kinds.now
   pub dir : 2 ≤ x
 
--- and each inode has a flag
+-- each inode has a flag and a word, and the directory that stamps is the root or one after it
 pub record CanLook (i : Inodes) (dir : ℕ) (flags : List Bool) (words : List ℕ) : Type 0 where
   pub flags_long : length flags ≡ length i.kinds.now
   pub stamp : CanStamp i dir words

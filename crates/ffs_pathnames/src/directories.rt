@@ -75,8 +75,8 @@ fn first_to_check(workspace: &Workspace, count: u32) -> u32
     count
 }
 
-/// Whether a directory needs a check: loops without exit. Where an inode is marked, or a directory
-/// comes after the flags that are touched, one may.
+/// False only where no directory needs a check: loops without exit. Any marked inode makes it true,
+/// and so does a directory after the flags that are touched.
 fn any_to_check(workspace: &Workspace, count: u32) -> bool
     requires { ListsInodes workspace.now count }
     ensures { result ≡ false → (x : ℕ) → 2 ≤ x → x < count → needs_check workspace.now x ≡ false }

@@ -72,8 +72,8 @@ pub fn report_entries<I: Image, W: Output>(
 
 /// Reads the next chunk of a directory, and returns its place in the file, in bytes, and None where
 /// no chunk is left. `reads_left` is how many reads may be made of directories' own blocks; it
-/// falls by those that are made, at least. Only an image that gives other bytes each time asks for
-/// more.
+/// falls by those that are made, at least. Bytes that stay, of which the workspace holds what was
+/// found, never ask for more.
 ///
 /// # Errors
 /// A read of the image that failed.

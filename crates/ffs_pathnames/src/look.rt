@@ -58,8 +58,8 @@ pub struct FirstLook {
 /// Looks at a directory for the first time: reads its inode, looks at its chunks once, stamps the
 /// inodes that belong to it, and puts the chunk at the start of the file into `start`, if one is
 /// there. `reads_left` is how many reads may be made of directories' own blocks; it falls by those
-/// that are made, at least, and by no more than the directory costs. Only an image that gives other
-/// bytes each time asks for more.
+/// that are made, at least, and by no more than the directory costs. Bytes that stay, of
+/// which the workspace holds what was found, never ask for more.
 ///
 /// # Errors
 /// A read of the image that failed.
@@ -120,7 +120,7 @@ fn look_directory_unlimited<I: Image>(
 
 /// What is said of a directory of which no more may be read: that its chunks are corrupted, and hold
 /// neither `.` nor `..`; its size is said to be 0, which is too short. Nothing is said of its
-/// entries. Only an image that gives other bytes each time comes so far. A line is said, since
+/// entries. Bytes that stay, of which the workspace holds what was found, never come so far. A line is said, since
 /// silence would pass the directory as right: each line of phase 2 is a defect, so the check doesn't
 /// end as consistent.
 fn refused_look() -> FirstLook

@@ -45,7 +45,6 @@ pub enum Root {
 /// The contract gives the text only for a workspace that holds what the block check found. At `Ok`
 /// such a workspace holds what the survey found, too.
 ///
-/// Any image is read no more than four sweeps, and `line_reads` for each message that was begun.
 /// Known bytes, of which the workspace holds what the block check found, are read at most
 /// `pathname_reads` times, also where a read failed. Of these, too: where no survey was made
 /// before, a directory of which nothing can be reported isn't read for the messages, unless it is
@@ -56,8 +55,7 @@ pub enum Root {
 /// # Errors
 /// A read of the image that failed, and a write of the report that failed. Where it was a write, or
 /// the workspace says `surveyed` then, phase 2 can be called again: all that it needs is held
-/// still. Of bytes that are known as above, the workspace says so unless nothing but the heading
-/// was begun.
+/// still.
 pub fn phase2<I: Image, W: Output>(
     geometry: &Geometry,
     image: &mut I,

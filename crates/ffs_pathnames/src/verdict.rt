@@ -70,6 +70,7 @@ pub fn verdict(
     first_naming: bool,
     parent_entry: bool,
 ) -> Verdict
+    // Where its messages show the inode's attributes, the inode is one of the volume.
     ensures below { IsTrue (asks_attr result) → entry.now.number < length inodes.now.kinds.now }
     ensures is { (vol : Volume) → Sees vol inodes.now → result
         ≡ verdict_on vol first_naming parent_entry (entry_value entry.now) }
@@ -109,6 +110,7 @@ pub fn verdict_at_reading(
     entry: &Entry<'_>,
 ) -> Verdict
     requires { HasFlagAndWord inodes.now flags.now.items words.now.items }
+    // Where its messages show the inode's attributes, the inode is one of the volume.
     ensures below { IsTrue (asks_attr result) → entry.now.number < length inodes.now.kinds.now }
     ensures is { (vol : Volume) → Sees vol inodes.now → result
         ≡ verdict_at_reading vol dir (passed_in inodes.now flags.now.items words.now.items)

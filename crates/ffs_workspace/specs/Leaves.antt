@@ -15,7 +15,7 @@ pub record LeavesBlockCheck (old new : Workspace) : Type 0 where
   pub runs_seen : new.runs_seen ≡ old.runs_seen
   pub runs_again : new.runs_again ≡ old.runs_again
 
--- so is what the survey of directories found, but for the places of parent entries, of which some may be
+-- what the block check and the survey of directories found is as it was, but for the places of parent entries, of which some may be
 -- noted, and `flags`
 pub record LeavesAllButPlaces (old new : Workspace) : Type 0 where
   pub block_check : LeavesBlockCheck old new
@@ -25,7 +25,7 @@ pub record LeavesAllButPlaces (old new : Workspace) : Type 0 where
   pub reached : new.reached ≡ old.reached
   pub parents : new.parents ≡ old.parents
 
--- and each place that is noted is right where each one was
+-- LeavesAllButPlaces, and each place that is noted is right where each one was
 pub record LeavesSurvey (old new : Workspace) : Type 0 where
   pub findings : LeavesAllButPlaces old new
   pub places : (v : Layout) (b : List ℕ) → AreParts v b old.words.items → AreParts v b new.words.items

@@ -37,8 +37,8 @@ pub struct Workspace {
     /// The fragments with a DUP line. Phase 1b clears each of which it has reported the first kept
     /// offer.
     pub duplicates: FragmentMap,
-    /// Whether fragments had a DUP line when a phase 1 ended with `Ok` last: in a new workspace,
-    /// whether it printed one. No later phase changes it.
+    /// Whether fragments had a DUP line, as the last phase 1 that ended with `Ok` found it: in a new
+    /// workspace, whether it printed one. No later phase changes it.
     pub has_dups: bool,
     /// What each inode is (`Kind`).
     pub kinds: FixedList<u8>,
@@ -215,9 +215,9 @@ impl Workspace {
         maps + lists + buffers as u64
     }
 
-    /// Whether fragments had a DUP line when a phase 1 ended with `Ok` last, so that phase 1b is to
-    /// run (fsck(8)): in a new workspace, whether it printed one. It is false before that. A phase 1
-    /// that failed leaves the answer as it was, and so do the later phases.
+    /// Whether fragments had a DUP line, as the last phase 1 that ended with `Ok` found it, so that
+    /// phase 1b is to run (fsck(8)): in a new workspace, whether it printed one. It is false before
+    /// that. A phase 1 that failed leaves the answer as it was, and so do the later phases.
     pub fn has_dups(&self) -> bool
         ensures { result ≡ self.now.has_dups }
     {

@@ -26,8 +26,8 @@ pub returns-in_err-say-clause-text : goal.returns-in_err-say-clause-text
 returns-in_err-say-clause-text g c =
     rw (fails_with _ c.from_residual.ensures.1) (stops_heading c.in_err-say.ensures.said)
 
-pub returns-in_err-say-clause-cut : goal.returns-in_err-say-clause-cut
-returns-in_err-say-clause-cut g c =
+pub returns-in_err-say-clause-part : goal.returns-in_err-say-clause-part
+returns-in_err-say-clause-part g c =
     let fresh = fresh_held c.args.geometry.now.layout c.args.workspace.now _ c.forget_windows.ensures.only in
     rw (fails_with _ c.from_residual.ensures.1) (λ bytes k. found_cut (found_none c.reserve.new.workspace)
     (c.reserve.ensures.claims (fresh_surveyed (fresh k.1)) ∙ sym (before_first c.args.geometry.now.layout bytes))
@@ -82,8 +82,8 @@ returns-in_err-claim_inode-clause-text g c =
     (reports_knowing (Unit {0}) _ _ _ _ _ (Err c.in_err-claim_inode.field-0.0)
     (λ bytes k. ap (λ d. d.contents) inv.device ∙ k.0) c.in_err-claim_inode.ensures.claims.text))
 
-pub returns-in_err-claim_inode-clause-cut : goal.returns-in_err-claim_inode-clause-cut
-returns-in_err-claim_inode-clause-cut g c =
+pub returns-in_err-claim_inode-clause-part : goal.returns-in_err-claim_inode-clause-part
+returns-in_err-claim_inode-clause-part g c =
     let from = c.from_residual-in_err-claim_inode in
     rw (fails_with _ from.ensures.1) (λ bytes k. found_cut c.in_err-claim_inode.ensures.unstored
     (c.loop-number.invariant.claims bytes k) (c.loop-number.invariant.found bytes k))

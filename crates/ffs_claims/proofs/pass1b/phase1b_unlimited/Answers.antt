@@ -182,7 +182,7 @@ loop-number-preserved g c =
     record {
       ready = rewalks.left.ready;
       device = rewalks.left.image ∙ inv.device;
-      claims = claims_then inv.claims rewalks.left.claims;
+      claims = claims_then inv.claims rewalks.left.stays;
       low = omega arith;
       high = λ h. omega arith;
       runs = λ bytes k.

@@ -18,7 +18,7 @@ loop-run-init g c =
     let begun = λ (bytes : List _). rw c.noted_cut.ensures at (c.start-runs.ensures.runs bytes) in
     let unread = top_unread c.start-runs.result.walk top in
     record {
-      left = record { image = refl; ready = c.requires.ready; claims = claims_none c.args.workspace.now };
+      left = record { image = refl; ready = c.requires.ready; stays = claims_none c.args.workspace.now };
       pending = c.requires.pending;
       geometry = c.start-runs.ensures.geometry;
       held = top_held c.start-runs.result.walk top _;
@@ -70,7 +70,7 @@ returns-in_err-report_run-clause-walks g c =
           (part_from _ _ _ did.part refl refl);
       runs = λ bytes t. omega (arith, (inv.walk bytes t).runs, counted_most _ _ counts, ap length (next bytes t));
       clears = clears_then inv.clears (clears_from did.clears refl refl);
-      left = record { image = on.image; ready = on.ready; claims = on.claims };
+      left = record { image = on.image; ready = on.ready; stays = on.stays };
       counted = runs_pay_on inv.counted counts (omega (arith, paid, indirect_most c.in-Some.run'.block));
       known = λ bytes t. omega (arith, inv.indirect bytes t, paid, ap indirect_among (next bytes t));
     })
