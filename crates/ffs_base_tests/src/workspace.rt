@@ -90,11 +90,11 @@ fn by_parts<I: Image>(
     requires inodes { inodes_of geometry.now.layout ≡ 32 }
     requires ready { CanReadInodes geometry.now.layout (I.device image.old) table.old }
 {
-    let far = table.inode_by_part(geometry, 8, image)?;
+    let far = table.inode_by_piece(geometry, 8, image)?;
     let far_part = (far, table.first, table.count);
-    let next = table.inode_by_part(geometry, 12, image)?;
+    let next = table.inode_by_piece(geometry, 12, image)?;
     let next_part = (next, table.first, table.count);
-    let root = table.inode_by_part(geometry, 2, image)?;
+    let root = table.inode_by_piece(geometry, 2, image)?;
     Ok([far_part, next_part, (root, table.first, table.count)])
 }
 

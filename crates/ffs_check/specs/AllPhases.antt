@@ -11,7 +11,7 @@ use Rattle.ffs_volume.specs.{Directories.{PathnameCheck.continues_after_root, Vo
 use Rattle.ffs_volume.specs.{Report.Whole.phase_lines, Messages.Kinds.{Message, cannot_alloc, cannot_read, has_defect}}
 use Rattle.ffs_volume.specs.{Messages.Kinds.{phase1, phase2, stops_check}, Report.{Memory.{runs_limit, held_of}, Opening.super_lines}}
 use Rattle.ffs_volume.specs.declared.Layout.{Layout}
-use Rattle.ffs_report.specs.PhaseOutcome.{FirstMessages, ImageAfter, SaidOf, SaysBeforeFault}
+use Rattle.ffs_report.specs.PhaseOutcome.{FirstMessages, ImageAfter, SaidOf, SaysThenReads}
 use Rattle.ffs_image.specs.Known.{ForBytes, IsContents}
 use Rattle.ffs_report.specs.{Progress.{Progress, Said, Stopped}, declared.fault.RunFault.{RunFault, TheVariants.Read}}
 use Rattle.ffs_report.specs.declared.fault.RunFault.TheVariants.{Out}
@@ -71,7 +71,7 @@ headings_of (Err fault) = phase1 ∷ []
 -- of any image: messages were said in the sections of these headings, or the output failed among them
 pub record SaysSections (old new : Progress) (result : Result Root RunFault) : Type 0 where
   pub messages : List Message
-  pub says : SaysBeforeFault messages old new result
+  pub says : SaysThenReads messages old new result
   pub sections : HasSections (headings_of result) messages
 
 -- what a check leaves of the counts of Runs and of what `has_dups` answers: after a whole report, also one that stops

@@ -10,7 +10,7 @@ use Rattle.ffs_volume.specs.{Encodings.{Kinds.kind_at, Links.start_at, Replay.cu
 use Rattle.ffs_volume.specs.{declared.{Inode.Inode, Layout.Layout}, Encodings.Notes.{note_of, note_at}}
 use Rattle.ffs_workspace.specs.{Holds.{bool_at, claims_of, IsFresh, HoldsPhase1}, Lengths.IsFor}
 use Rattle.ffs_workspace.specs.declared.workspace.Workspace.{Workspace}
-use Rattle.ffs_claims.{proofs.StepsContinue.{lines_append}, specs.{Leaves.{SameFound, Stored}, Phases.IsCutInPhase1}}
+use Rattle.ffs_claims.{proofs.StepsContinue.{lines_append}, specs.{Leaves.{SameFound, Stored}, Phases.Phase1FoundInPart}}
 use Rattle.ffs_claims.specs.Lines.{of_lines, owners_from}
 
 pub before_first : (v : Layout) (bytes : List ℕ) → claims_before v bytes 2 ≡ no_claims v
@@ -111,7 +111,7 @@ found_next {v = v} {bytes = bytes} {u = u} {w = w} {n = n} low high m now stored
 
 -- where claims end early, what was found before stays
 pub found_cut : {v : Layout} {bytes : List ℕ} {u w : Workspace} {n : ℕ} → SameFound u w →
-    claims_of u ≡ claims_before v bytes n → FoundTo v bytes u n → IsCutInPhase1 v bytes w
+    claims_of u ≡ claims_before v bytes n → FoundTo v bytes u n → Phase1FoundInPart v bytes w
 found_cut {n = n} same claims found = record {
   number = n;
   kinds = λ x. ap (λ (w : Workspace). slice_index w.kinds.items x) same.only ∙ found.kinds x;

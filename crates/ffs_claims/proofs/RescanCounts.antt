@@ -16,7 +16,7 @@ use Rattle.ffs_volume.specs.Blocks.BlockCheck.{set_count, after_first}
 use Rattle.ffs_volume.specs.Costs.RescanRuns.{run_offers_of_step, runs_until_reported, run_offers_of_steps}
 use Rattle.ffs_volume.specs.Costs.RescanRuns.{run_offers_of_owners, rescan_runs}
 use Rattle.ffs_volume.specs.Costs.VolumeReads.{indirect_in_steps, seen_indirect}
-use Rattle.ffs_walk.specs.{Keepings.run_taken, KeptRuns.{kept_runs, step_run}, declared.kept_runs.KeptRun.KeptRun}
+use Rattle.ffs_walk.specs.{Keepings.run_taken, SeenRuns.{seen_runs, step_run}, declared.seen_runs.SeenRun.SeenRun}
 use Rattle.ffs_claims.{proofs.Reportings.{after_append, none_after}}
 use Rattle.ffs_claims.specs.RescanRuns.{indirect_among, offers_of_runs, run_offers}
 
@@ -64,18 +64,18 @@ step_again v i cut s (Run start len (Some block)) same next =
 step_again v i cut s other same next = record { offers = refl; looks = refl; indirect = refl }
 
 -- what some steps are, replayed
-pub record StepsAgain (v : Layout) (i : ℕ) (s : Claims) (steps : List Step) (runs : List KeptRun) : Type 0 where
+pub record StepsAgain (v : Layout) (i : ℕ) (s : Claims) (steps : List Step) (runs : List SeenRun) : Type 0 where
   pub offers : kept_in_steps v i s steps ≡ offers_of_runs i runs
   pub looks : run_offers_of_steps v i s steps ≡ map (run_offers i) runs
   pub indirect : indirect_in_steps v s steps ≡ indirect_among runs
 
-indirect_append : (xs ys : List KeptRun) → indirect_among (xs ++ ys) ≡ indirect_among xs + indirect_among ys
+indirect_append : (xs ys : List SeenRun) → indirect_among (xs ++ ys) ≡ indirect_among xs + indirect_among ys
 indirect_append [] ys = omega arith
 indirect_append (x ∷ xs) ys = omega (arith, indirect_append xs ys)
 
 steps_again : (v : Layout) (i : ℕ) (s : Claims) (steps : List Step) → s.dup_offers ≤ s.kept →
-    StepsAgain v i s steps (kept_runs v (cut_of (after_steps v s steps)) (replay_of s) steps)
-unfolding kept_runs
+    StepsAgain v i s steps (seen_runs v (cut_of (after_steps v s steps)) (replay_of s) steps)
+unfolding seen_runs
 steps_again v i s [] few = record { offers = refl; looks = refl; indirect = refl }
 steps_again v i s (step ∷ steps) few =
     let cut = cut_of (after_steps v s (step ∷ steps)) in
@@ -86,7 +86,7 @@ steps_again v i s (step ∷ steps) few =
 
 -- an inode, from its begin on
 pub inode_again : (v : Layout) (i : ℕ) (s : Claims) (steps : List Step) → StepsAgain v i (at_next_inode s) steps
-    (kept_runs v (cut_of (after_steps v (at_next_inode s) steps)) fresh_replay steps)
+    (seen_runs v (cut_of (after_steps v (at_next_inode s) steps)) fresh_replay steps)
 inode_again v i s steps = steps_again v i (at_next_inode s) steps (omega arith)
 
 -- ---- how many Runs the rescan looks at
@@ -119,7 +119,7 @@ looked_both dup (kept ∷ xs) ys = elim (cases_eq (set_count dup) 0) [
 ]
 
 -- the Runs leave to report what their offers leave
-pub runs_leave : (i : ℕ) (dup : List Bool) (runs : List KeptRun) →
+pub runs_leave : (i : ℕ) (dup : List Bool) (runs : List SeenRun) →
     after_runs dup (map (run_offers i) runs) ≡ after_first dup (offers_of_runs i runs)
 runs_leave i dup [] = refl
 runs_leave i dup (run ∷ runs) = runs_leave i (after_first dup (run_offers i run)) runs

@@ -12,7 +12,7 @@ use Rattle.ffs_volume.specs.Blocks.KeptOffers.{kept_in_offers, kept_in_step, kep
 use Rattle.ffs_volume.specs.Blocks.{KeptSteps.claims_before, Owners.{owner_of, owners_of}, Steps.steps_of}
 use Rattle.ffs_volume.specs.{Directories.Volumes.is_inode_number, Encodings.Replay.{fresh_replay, cut_of, cut_at}}
 use Rattle.ffs_volume.specs.{Laws.Geometry.IsAcceptedLayout}
-use Rattle.ffs_walk.{proofs.ReplayedRuns.runs_counted, specs.{KeptRuns.kept_runs, declared.kept_runs.KeptRun.KeptRun}}
+use Rattle.ffs_walk.{proofs.ReplayedRuns.runs_counted, specs.{SeenRuns.seen_runs, declared.seen_runs.SeenRun.SeenRun}}
 use Rattle.ffs_volume.specs.{Report.Whole.run_count, declared.{Layout.Layout, Step.{Step, TheVariants.Run}}}
 use Rattle.ffs_volume.specs.{Encodings.Notes.{cut_in, note_at}}
 use Rattle.ffs_volume.specs.Blocks.BlockCheck.{after_first, set_count}
@@ -32,8 +32,8 @@ use Rattle.ffs_claims.specs.Phases.{WithNotes, phase1b_messages_for}
 use Rattle.ffs_claims.specs.RescanRuns.{ReadsIndirectAgain, offers_by_owner, offers_of_runs, run_offers}
 
 -- the Runs of the inode n, replayed by its noted cut, the offers that it keeps, and those of each of its Runs
-abbrev pub again_at : Layout → List ℕ → List ℕ → ℕ → List KeptRun
-again_at v bytes notes n = kept_runs v (cut_in (slice_index notes n)) fresh_replay (steps_of v (inode_of v bytes n) bytes)
+abbrev pub again_at : Layout → List ℕ → List ℕ → ℕ → List SeenRun
+again_at v bytes notes n = seen_runs v (cut_in (slice_index notes n)) fresh_replay (steps_of v (inode_of v bytes n) bytes)
 
 abbrev pub offers_at : Layout → List ℕ → List ℕ → ℕ → List Offer
 offers_at v bytes notes n = offers_of_runs n (again_at v bytes notes n)

@@ -5,7 +5,7 @@ use Rattle.ffs_volume.specs.{declared.Layout.Layout, Blocks.BlockCheck.set_count
 use Rattle.ffs_volume.specs.Costs.RescanRuns.{runs_until_reported}
 use Rattle.ffs_image.specs.Device.{Device}
 use Rattle.ffs_maps.specs.Bits.{bits_of}
-use Rattle.ffs_walk.specs.{Windows.KeepsBlocks, declared.{blocks.Blocks.Blocks, kept_runs.KeptRun.KeptRun}}
+use Rattle.ffs_walk.specs.{Windows.KeepsBlocks, declared.{blocks.Blocks.Blocks, seen_runs.SeenRun.SeenRun}}
 use Rattle.ffs_workspace.specs.declared.workspace.{Windows.Windows, Workspace.Workspace}
 use Rattle.ffs_layout.specs.declared.geometry.Geometry.{Geometry}
 use Rattle.ffs_claims.proofs.{Reportings.{reporting_over, Reporting, reporting_more}}
@@ -14,20 +14,20 @@ use Rattle.ffs_claims.specs.{Reporting.{OffersReported, ReportsOnly, RewalkLeave
 use Rattle.ffs_claims.specs.RescanRuns.{Rewalked, RoseBy, RunsPay, offers_of_runs, run_offers}
 
 -- where a second walk is, with the Runs R left to it: what it reported, and the Runs it looked at
-pub record Rewalking (i : ℕ) (all R : List KeptRun) (u w : Workspace) : Type 0 where
+pub record Rewalking (i : ℕ) (all R : List SeenRun) (u w : Workspace) : Type 0 where
   pub reported : Reporting (offers_of_runs i R) (offers_of_runs i all) u w
   pub runs : w.runs_again + length R ≤ u.runs_again + length all
   pub count : RoseBy u.runs_again (w.runs_again + runs_until_reported (bits_of w.duplicates) (map (run_offers i) R))
       (runs_until_reported (bits_of u.duplicates) (map (run_offers i) all))
 
-pub rewalk_begins : {i : ℕ} {all R : List KeptRun} {w : Workspace} → R ≡ all → Rewalking i all R w w
+pub rewalk_begins : {i : ℕ} {all R : List SeenRun} {w : Workspace} → R ≡ all → Rewalking i all R w w
 rewalk_begins {w = w} same = grind arith
 
 -- a Run more is counted
 pub counted_most : (old new : ℕ) → new ≡ min (old + 1) (2 ^ 64 - 1) → new ≤ old + 1
 counted_most old new e = grind arith
 
-pub rewalk_on : {i : ℕ} {all R R' : List KeptRun} {run : KeptRun} {u w w' : Workspace} (mid : Workspace) →
+pub rewalk_on : {i : ℕ} {all R R' : List SeenRun} {run : SeenRun} {u w w' : Workspace} (mid : Workspace) →
     R ≡ run ∷ R' → set_count (bits_of w.duplicates) ≢ 0 → mid.duplicates ≡ w.duplicates → mid.marked ≡ w.marked →
     OffersReported (run_offers i run) mid w' → w'.runs_again ≡ min (w.runs_again + 1) (2 ^ 64 - 1) →
     Rewalking i all R u w → Rewalking i all R' u w'
@@ -41,7 +41,7 @@ rewalk_on {w = w} {w' = w'} mid e some d m p q t =
     }
 
 -- it is over where no Run is left to see, and where nothing is left to report
-pub rewalk_ends : {i : ℕ} {all R : List KeptRun} {u w : Workspace} {windows : Windows} → R ≡ [] → Rewalking i all R u w →
+pub rewalk_ends : {i : ℕ} {all R : List SeenRun} {u w : Workspace} {windows : Windows} → R ≡ [] → Rewalking i all R u w →
     Rewalked i all u (record w { windows = windows })
 unfolding runs_until_reported
 rewalk_ends {i = i} e t =
@@ -51,7 +51,7 @@ rewalk_ends {i = i} e t =
       count = λ h. grind (arith, t.count h);
     }
 
-pub rewalk_over : {i : ℕ} {all R : List KeptRun} {u w : Workspace} → set_count (bits_of w.duplicates) ≡ 0 →
+pub rewalk_over : {i : ℕ} {all R : List SeenRun} {u w : Workspace} → set_count (bits_of w.duplicates) ≡ 0 →
     Rewalking i all R u w → Rewalked i all u w
 rewalk_over {i = i} {R = R} {w = w} e t = search (arith, reporting_over, looked_none)
 

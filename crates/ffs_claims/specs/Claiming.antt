@@ -20,7 +20,7 @@ use Rattle.ffs_workspace.specs.{Tables.HoldsPiece, declared.workspace.Workspace.
 use Rattle.ffs_claims.specs.{Area.IsDataArea, Bounds.{inode_bound, step_bound}}
 use Rattle.ffs_claims.specs.Leaves.{CanOffer, ClaimsAndFinds, ClaimsOnly, HasBegun, OffersOnly, SameFound}
 use Rattle.ffs_claims.specs.{Lines.of_lines, Moments.{ClaimMoment, PhaseMoment}, declared.area.DataArea.DataArea}
-use Rattle.ffs_claims.specs.declared.{area.Run.Run, claim.Sweep.Sweep}
+use Rattle.ffs_claims.specs.declared.{area.Run.Run, claim.Scan.Scan}
 
 -- the reserved fragments are set in the map `used`: where the workspace was as it was made, they alone are
 -- used then. The counts of the current inode and that of Runs are 0, and nothing else changes
@@ -40,19 +40,19 @@ pub record CanClaim (v : Layout) (d : Device) (w : Workspace) (area : DataArea) 
 
 -- an inode can claim in a sweep: its number is one of the volume, the walk is over the volume, and the Runs
 -- counted so far leave room for its own
-pub record CanClaimInode (g : Geometry) (d : Device) (w : Workspace) (sweep : Sweep) (number : ℕ) : Type 0 where
-  pub claim : CanClaim g.layout d w sweep.area
-  pub walk : sweep.walk.geometry ≡ g
+pub record CanClaimInode (g : Geometry) (d : Device) (w : Workspace) (scan : Scan) (number : ℕ) : Type 0 where
+  pub claim : CanClaim g.layout d w scan.area
+  pub walk : scan.walk.geometry ≡ g
   pub number_fits : number < inodes_of g.layout
   pub runs : w.runs_seen < inode_bound
 
 -- the steps of the current inode can claim: `class` is the inode's class, the walk is over the volume, and the
 -- inode has no bad Run, no dup offer and no kept offer yet
-pub record CanClaimSteps (g : Geometry) (d : Device) (w : Workspace) (sweep : Sweep) (class : Class) (i : Inode)
+pub record CanClaimSteps (g : Geometry) (d : Device) (w : Workspace) (scan : Scan) (class : Class) (i : Inode)
     : Type 0 where
   pub class_is : class ≡ class_of g.layout i
-  pub claim : CanClaim g.layout d w sweep.area
-  pub walk : sweep.walk.geometry ≡ g
+  pub claim : CanClaim g.layout d w scan.area
+  pub walk : scan.walk.geometry ≡ g
   pub begun : HasBegun w
 
 -- the next step of an inode can be seen: the inode isn't cut, and there is room to count its
@@ -115,11 +115,11 @@ pub record ReadsByBlock {T : Type 0} (v : Layout) (number : ℕ) (old new : Phas
 -- what an inode leaves: the image, but for a read that failed, what the next inode asks for, few Runs more, and all
 -- that inodes which claim don't change (`ClaimsAndFinds`). Of the Runs that it sees at most `runs_without_claim`
 -- claim no fragment, and each read is paid by a Run that is seen
-pub record InodeLeaves {T : Type 0} (g : Geometry) (old new : PhaseMoment) (sweep : Sweep) (result : Result T RunFault)
+pub record InodeLeaves {T : Type 0} (g : Geometry) (old new : PhaseMoment) (scan : Scan) (result : Result T RunFault)
     : Type 0 where
   pub image : ImageAfter old.image new.image result
-  pub claim : CanClaim g.layout new.image new.workspace sweep.area
-  pub walk : sweep.walk.geometry ≡ g
+  pub claim : CanClaim g.layout new.image new.workspace scan.area
+  pub walk : scan.walk.geometry ≡ g
   pub bound : FewRuns g.layout old.workspace new.workspace
   pub runs_claim : OnOk result (new.workspace.runs_seen + used_bits (claims_of old.workspace)
       ≤ old.workspace.runs_seen + used_bits (claims_of new.workspace) + runs_without_claim)
@@ -155,7 +155,7 @@ pub record ClaimsStep {E : Type 0} (v : Layout) (number : ℕ) (step : Step) (ol
 -- the steps of an owner claim what they offer: their lines are reported, the claims are those after
 -- them, the next inode can be walked over, and each read is paid by a Run that is seen. An image that
 -- gives its bytes is read once for each indirect block that is seen, and no more Runs are seen than theirs
-pub record ClaimsSteps {T : Type 0} (g : Geometry) (owner : List ℕ → Owner) (old new : PhaseMoment) (sweep : Sweep)
+pub record ClaimsSteps {T : Type 0} (g : Geometry) (owner : List ℕ → Owner) (old new : PhaseMoment) (scan : Scan)
     (result : Result T RunFault) : Type 0 where
   pub text : PhaseReports (IsContents old.image.contents) (λ bytes.
       of_lines (lines_of_steps g.layout (owner bytes).number (claims_of old.workspace) (owner bytes).steps))
@@ -163,8 +163,8 @@ pub record ClaimsSteps {T : Type 0} (g : Geometry) (owner : List ℕ → Owner) 
   pub claims : OnOk result (ForContents old.image.contents (λ bytes.
       claims_of new.workspace ≡ after_steps g.layout (claims_of old.workspace) (owner bytes).steps))
   pub image : ImageAfter old.image new.image result
-  pub left : StepsLeave g.layout new.image old.workspace new.workspace sweep.area result
-  pub walk : sweep.walk.geometry ≡ g
+  pub left : StepsLeave g.layout new.image old.workspace new.workspace scan.area result
+  pub walk : scan.walk.geometry ≡ g
   pub counted : new.reads + old.workspace.runs_seen ≤ old.reads + new.workspace.runs_seen
   pub known : ForContents old.image.contents (λ bytes.
       new.reads ≤ old.reads + indirect_in_steps g.layout (claims_of old.workspace) (owner bytes).steps)
@@ -174,13 +174,13 @@ pub record ClaimsSteps {T : Type 0} (g : Geometry) (owner : List ℕ → Owner) 
 -- an inode claims as an owner of fragments: its lines are reported, the claims are those after it, and
 -- an image that gives its bytes is read once for each indirect block that is seen, and no more Runs are seen than
 -- the owner's
-pub record ClaimsOwner {T : Type 0} (g : Geometry) (owner : List ℕ → Owner) (old new : PhaseMoment) (sweep : Sweep)
+pub record ClaimsOwner {T : Type 0} (g : Geometry) (owner : List ℕ → Owner) (old new : PhaseMoment) (scan : Scan)
     (result : Result T RunFault) : Type 0 where
   pub text : PhaseReports (IsContents old.image.contents)
       (λ bytes. of_lines (owner_lines g.layout (claims_of old.workspace) (owner bytes))) old.report new.report result
   pub claims : OnOk result (ForContents old.image.contents (λ bytes.
       claims_of new.workspace ≡ after_owner g.layout (claims_of old.workspace) (owner bytes)))
-  pub left : InodeLeaves g old new sweep result
+  pub left : InodeLeaves g old new scan result
   pub known : ForContents old.image.contents
       (λ bytes. ReadsIndirect g.layout (claims_of old.workspace) (owner bytes) old.reads new.reads)
   pub most : ForContents old.image.contents

@@ -1,7 +1,7 @@
 -- What the contracts of phases 1 and 1b cite, in the order to read it: each file rests on those before it. Who only
 -- wants to know what the phases promise begins at the end, with `Phases`:
 --
---   phase1     IsLeftByPhase1, or IsCutInPhase1 where it fails; Phase1Reads; Phase1Keeps, what stays as it was
+--   phase1     IsLeftByPhase1, or Phase1FoundInPart where it fails; Phase1Reads; Phase1Keeps, what stays as it was
 --   phase1b    IsLeftByPhase1b; GoesOverOffers, also where it fails; Phase1bReads; Phase1bKeeps (in the file
 --              `Reporting`), what stays; phase1b_messages_for, what a second call says; ClearsAsSaid (in
 --              `Reporting`), how many fragments are left for that

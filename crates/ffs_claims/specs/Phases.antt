@@ -28,7 +28,7 @@ pub record IsLeftByPhase1 (v : Layout) (bytes : List ℕ) (w : Workspace) : Type
 -- phase 1 was cut short: it has found what it finds of the inodes before a number, and nothing of others. The map
 -- `used` has the reserved fragments and those that these inodes claim, and `duplicates` those of their DUP lines; both
 -- may have more
-pub record IsCutInPhase1 (v : Layout) (bytes : List ℕ) (w : Workspace) : Type 0 where
+pub record Phase1FoundInPart (v : Layout) (bytes : List ℕ) (w : Workspace) : Type 0 where
   pub number : ℕ
   pub kinds : (x : ℕ) → slice_index w.kinds.items x ≡ (if nat_lt x number then kind_at v bytes x else 0)
   pub marked : (x : ℕ) → bool_at w.marked.items x

@@ -1,5 +1,5 @@
 -- The offers of the Runs that phase 1b looks at, and what walking over an inode again leaves. Which Runs these are, and
--- how many of their offers are kept, says `KeptRuns` of ffs_walk.
+-- how many of their offers are kept, says `SeenRuns` of ffs_walk.
 use Rattle.std.specs.{List.{flat_map, range_with_len}, Prelude.{◌≡◌, ◌<◌, ◌≤◌, ℕ, ◌+◌, ◌-◌, ◌^◌, List, [], ◌∷◌}}
 use Rattle.std.specs.Prelude.{length, map, Result, OnErr, OnOk, slice_index}
 use Rattle.ffs_volume.specs.Blocks.BlockCheck.{first_offer_lines}
@@ -12,20 +12,20 @@ use Rattle.ffs_volume.specs.declared.{constants.TheConstants.ROOTINO, Inode.Inod
 use Rattle.ffs_report.specs.{PhaseOutcome.PhaseReports, declared.fault.RunFault.RunFault}
 use Rattle.ffs_image.specs.{Device.ForContents, Known.IsContents}
 use Rattle.ffs_maps.specs.Bits.{bits_of}
-use Rattle.ffs_walk.specs.{KeptRuns.{indirect_in_run, kept_runs}, declared.kept_runs.KeptRun.KeptRun}
+use Rattle.ffs_walk.specs.{SeenRuns.{indirect_in_run, seen_runs}, declared.seen_runs.SeenRun.SeenRun}
 use Rattle.ffs_workspace.specs.{Tables.{HoldsInode, HoldsPiece}, declared.workspace.Workspace.Workspace}
 use Rattle.ffs_claims.specs.{Lines.of_lines, Moments.{PhaseMoment, claim_at}}
 use Rattle.ffs_claims.specs.Reporting.{ClearsAsSaid, OffersReported, ReportedInPart, RewalkLeaves}
 
 -- the kept offers of a Run, and of Runs
-abbrev pub run_offers : (number : ℕ) → KeptRun → List Offer
-run_offers number run = map (offer_of number) (range_with_len run.start run.taken)
+abbrev pub run_offers : (number : ℕ) → SeenRun → List Offer
+run_offers number run = map (offer_of number) (range_with_len run.start run.kept)
 
-abbrev pub offers_of_runs : (number : ℕ) → List KeptRun → List Offer
+abbrev pub offers_of_runs : (number : ℕ) → List SeenRun → List Offer
 offers_of_runs number runs = flat_map (run_offers number) runs
 
 -- how many of some Runs are indirect blocks
-abbrev pub indirect_among : List KeptRun → ℕ
+abbrev pub indirect_among : List SeenRun → ℕ
 indirect_among [] = 0
 indirect_among (run ∷ runs) = indirect_in_run run + indirect_among runs
 
@@ -53,18 +53,18 @@ pub record RunsPay (reads reads' old new : ℕ) : Type 0 where
 
 -- an inode was walked over again, with these Runs: its kept offers were gone over, and its Runs were
 -- counted up to the one that reports the last fragment with a DUP line
-pub record Rewalked (number : ℕ) (runs : List KeptRun) (old new : Workspace) : Type 0 where
+pub record Rewalked (number : ℕ) (runs : List SeenRun) (old new : Workspace) : Type 0 where
   pub reported : OffersReported (offers_of_runs number runs) old new
   pub count : RoseBy old.runs_again new.runs_again (runs_until_reported (bits_of old.duplicates)
       (map (run_offers number) runs))
 
 -- the Runs of an inode, by the cut that is noted of it
-abbrev pub noted_runs : Layout → Workspace → (number : ℕ) → Inode → (bytes : List ℕ) → List KeptRun
+abbrev pub noted_runs : Layout → Workspace → (number : ℕ) → Inode → (bytes : List ℕ) → List SeenRun
 noted_runs v w number inode bytes =
-    kept_runs v (cut_in (slice_index w.notes.items number)) fresh_replay (steps_of v inode bytes)
+    seen_runs v (cut_in (slice_index w.notes.items number)) fresh_replay (steps_of v inode bytes)
 
 -- each read is of an indirect block among Runs, once
-abbrev pub ReadsIndirectAgain : List KeptRun → (reads reads' : ℕ) → Type 0
+abbrev pub ReadsIndirectAgain : List SeenRun → (reads reads' : ℕ) → Type 0
 ReadsIndirectAgain runs reads reads' = reads' ≤ reads + indirect_among runs
 
 -- an inode is walked over again: of its kept offers those are reported that are the first of a fragment

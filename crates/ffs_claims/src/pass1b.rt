@@ -20,7 +20,7 @@ use ffs_layout::Geometry;
 use ffs_report::{Heading, Line, Output, Report, RunFault};
 use ffs_volume::Inode;
 use ffs_volume::constants::ROOTINO;
-use ffs_walk::KeptRuns;
+use ffs_walk::SeenRuns;
 use ffs_workspace::{Workspace, sweep_reads};
 
 /// Walks over the blocks of an inode again, until it is cut or nothing is left to report.
@@ -38,10 +38,10 @@ fn rewalk<I: Image, W: Output>(
         (phase_moment I.Image W.Output image.new workspace.new report.new) result }
     ensures table { workspace.new.windows.table ≡ workspace.old.windows.table }
 {
-    let mut runs = KeptRuns::start(geometry, inode, workspace.noted_cut(number));
+    let mut runs = SeenRuns::start(geometry, inode, workspace.noted_cut(number));
     while let Some(run) = runs.next(image, &mut workspace.windows.blocks)? {
         workspace.runs_again = workspace.runs_again.saturating_add(1);
-        report_run(geometry, workspace, number, run.start, run.taken, report)?;
+        report_run(geometry, workspace, number, run.start, run.kept, report)?;
         if !workspace.has_unreported_dups() {
             break;
         }
@@ -120,7 +120,7 @@ fn phase1b_unlimited<I: Image, W: Output>(
 /// kept offer reported: by a DUP line for the first inode that keeps an offer of it.
 ///
 /// The contract gives the text for a workspace as phase 1 left it, and after a fault once more:
-/// what is left is reported then. No more reads are made than those of a sweep (`sweep_reads`).
+/// what is left is reported then. No more reads are made than those of a scan (`sweep_reads`).
 ///
 /// # Errors
 /// A read of the image that failed, and a write of the report that failed.
@@ -161,11 +161,11 @@ pub fn phase1b<I: Image, W: Output>(
     ensures ready { IsReady geometry.now.layout (I.device image.new) workspace.new }
 {
     let mut limited = LimitedImage::new(image, sweep_reads(geometry));
-    let scanned = phase1b_unlimited(geometry, &mut limited, workspace, report);
+    let rescanned = phase1b_unlimited(geometry, &mut limited, workspace, report);
     if limited.is_spent() {
         // See `LimitedImage`: bytes that stay never ask for so many reads. Of others what is left
         // isn't reported.
         return Ok(());
     }
-    scanned
+    rescanned
 }

@@ -89,11 +89,11 @@ pub fn phase3<I: Image, W: Output>(
     }
     flag_leaders(
         &workspace.parents,
-        &mut workspace.queue,
+        &mut workspace.words,
         &mut workspace.flags,
     );
-    // `queue` was lent to the walks over parents: no place of a parent entry is noted now.
-    workspace.queue.fill(0);
+    // `words` was lent to the walks over parents: no place of a parent entry is noted now.
+    workspace.words.fill(0);
     for number in first..geometry.inodes() {
         report_unref(geometry, image, workspace, number, report)?;
     }

@@ -5,7 +5,7 @@ ghost use Rattle.ffs_report.specs.{Paid.Paid, Fails.FailsIn, PhaseOutcome.{Image
 ghost use Rattle.ffs_image.specs.Known.{ForBytes};
 ghost use Rattle.ffs_report.specs.Progress.{progress};
 ghost use Rattle.ffs_volume.specs.{Directories.Volumes.volume_of, Messages.Kinds.of_tree};
-ghost use Rattle.ffs_workspace.specs.{Found.WithSurvey, Ready.KeepsWindows, Tables.IsTableSector};
+ghost use Rattle.ffs_workspace.specs.{Found.WithSurvey, Ready.LeavesAllButWindows, Tables.IsTableSector};
 ghost use Rattle.ffs_volume.specs.Directories.Connectivity.{unref_dir_lines};
 ghost use Rattle.ffs_volume.specs.{declared.Layout.Layout, Blocks.Inodes.inodes_of};
 ghost use Rattle.ffs_workspace.specs.Lengths.{IsFor};
@@ -78,7 +78,7 @@ pub fn report_unref<I: Image, W: Output>(
         (progress W.sink report.old) (progress W.sink report.new)) result }
     ensures paid { Paid 1 (progress W.sink report.old) (progress W.sink report.new)
         (I.reads image.old) (I.reads image.new) result }
-    ensures stays { KeepsWindows geometry.now.layout (I.device image.new) workspace.old
+    ensures stays { LeavesAllButWindows geometry.now.layout (I.device image.new) workspace.old
         workspace.new }
 {
     let unref = is_unref(workspace, number);

@@ -1,7 +1,7 @@
 //! The records of a cylinder group, read from an image.
 
 ghost use Rattle.std.specs.Prelude.{◌+◌};
-ghost use Rattle.ffs_workspace.specs.Ready.{KeepsWindows};
+ghost use Rattle.ffs_workspace.specs.Ready.{LeavesAllButWindows};
 ghost use Rattle.ffs_counts.specs.Records.{AreReadOnce, AsksForGroup, AsksForRecords, CanReadGroup, CanReadRecord, GroupIsRead, ReadsRecord};
 
 use ffs_groups::{Counts, GroupFindings, InUse, compare_group};
@@ -64,7 +64,7 @@ pub fn read_group<I: Image>(
     ensures reads { AreReadOnce geometry.now.layout workspace.old.windows.table.window group
         (I.reads image.old + 1) (I.reads image.new) }
     ensures asks { AsksForGroup I.was_read geometry.now.layout group image.old image.new }
-    ensures stays { KeepsWindows geometry.now.layout (I.device image.new) workspace.old
+    ensures stays { LeavesAllButWindows geometry.now.layout (I.device image.new) workspace.old
         workspace.new }
 {
     let windows = &mut workspace.windows;

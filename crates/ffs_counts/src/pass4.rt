@@ -8,7 +8,7 @@ ghost use Rattle.ffs_image.specs.Known.{ForBytes};
 ghost use Rattle.ffs_report.specs.{PhaseOutcome.{HeadingFirst, ImageAfter, PhaseReports}};
 ghost use Rattle.ffs_report.specs.Progress.{progress};
 ghost use Rattle.ffs_volume.specs.Messages.Kinds as messages;
-ghost use Rattle.ffs_workspace.specs.{Found.WithFindings, Ready.{IsReady, KeepsWindows}, Tables.IsTableSector};
+ghost use Rattle.ffs_workspace.specs.{Found.WithFindings, Ready.{IsReady, LeavesAllButWindows}, Tables.IsTableSector};
 ghost use Rattle.ffs_counts.specs.{Ready.{CanCheckAllocated, HasElements, AreUnallocated, AreUnallocatedFrom}, References.is_dead_by};
 ghost use Rattle.ffs_counts.specs.BeforeFault.{FailsBeforeLine, SaidBeforeInode};
 ghost use Rattle.ffs_counts.specs.{References.{is_right_by}, Skipped.{AreRightFrom, AreSkippedFrom, CanSkipFrom}};
@@ -185,7 +185,7 @@ fn report_references<I: Image, W: Output>(
     // A read that failed is of the inode's own block, and nothing was said.
     ensures before_fault { FailsIn (FailsBeforeLine geometry.now.layout number
         (progress W.sink report.old) (progress W.sink report.new)) result }
-    ensures stays { KeepsWindows geometry.now.layout (I.device image.new) workspace.old
+    ensures stays { LeavesAllButWindows geometry.now.layout (I.device image.new) workspace.old
         workspace.new }
 {
     if is_right(workspace, number) {

@@ -6,7 +6,7 @@ use Rattle.ffs_volume.specs.{declared.{Layout.Layout}, Find.Owner.keeper_lines_o
 use Rattle.ffs_report.specs.Sink.{Sink}
 use Rattle.ffs_image.specs.Known.{ForBytes, IsContents}
 use Rattle.ffs_report.specs.declared.fault.RunFault.{RunFault, TheVariants.{Read, Out}}
-use Rattle.ffs_workspace.specs.Ready.{KeepsWindows}
+use Rattle.ffs_workspace.specs.Ready.{LeavesAllButWindows}
 use Rattle.ffs_finding.specs.Claims.{WithBlocks}
 use Rattle.ffs_volume.specs.{Blocks.Inodes.inodes_of, Encodings.Notes.{note_at}}
 use Rattle.ffs_workspace.specs.declared.workspace.{Workspace.Workspace}
@@ -25,7 +25,7 @@ same_lines knows all all' a b (Err (Out fault)) e p = grind arith
 
 -- the lines of an inode that was read, in a workspace of which only windows have changed
 pub found_lines : {T : Type 0} {v : Layout} {f x : ℕ} {m m' : Moment} {d0 on : Device} {w w0 : Workspace}
-    {r : Result T RunFault} → m.image ≡ d0 → KeepsWindows v on w0 w → IsAcceptedLayout v → 2 ≤ x →
+    {r : Result T RunFault} → m.image ≡ d0 → LeavesAllButWindows v on w0 w → IsAcceptedLayout v → 2 ≤ x →
     x < inodes_of v → FindsKeeper v (sought_in f x w) m m' r →
     PrintsLines (WithBlocks v d0 w0) (λ b. keeper_lines_of_inode v b f x) m.out m'.out r
 found_lines {v = v} {f = f} {x = x} {m = m} {m' = m'} {d0 = d0} {w = w} {w0 = w0} {r = r} e stays g low high p =
@@ -38,7 +38,7 @@ found_lines {v = v} {f = f} {x = x} {m = m} {m' = m'} {d0 = d0} {w = w} {w0 = w0
 
 -- and its reads
 pub found_reads : {T : Type 0} {v : Layout} {f x : ℕ} {m m' : Moment} {d0 on : Device} {w w0 : Workspace}
-    {r : Result T RunFault} → m.image ≡ d0 → KeepsWindows v on w0 w → IsAcceptedLayout v → 2 ≤ x →
+    {r : Result T RunFault} → m.image ≡ d0 → LeavesAllButWindows v on w0 w → IsAcceptedLayout v → 2 ≤ x →
     x < inodes_of v → FindsKeeper v (sought_in f x w) m m' r →
     ForBytes (WithBlocks v d0 w0) (λ b. m'.reads + (claims_before v b x).runs
     ≤ m.reads + 1 + (claims_before v b (x + 1)).runs)
@@ -48,6 +48,6 @@ found_reads {v = v} {x = x} {w = w} e stays g low high p = λ b k.
     omega (arith, runs, p.reads b (ap (λ (z : Device). z.contents) e ∙ k.0))
 
 -- only windows have changed
-pub stays_then : {v : Layout} {on on' : Device} {u w w' : Workspace} → KeepsWindows v on u w → KeepsWindows v on' w w' →
-    KeepsWindows v on' u w'
+pub stays_then : {v : Layout} {on on' : Device} {u w w' : Workspace} → LeavesAllButWindows v on u w → LeavesAllButWindows v on' w w' →
+    LeavesAllButWindows v on' u w'
 stays_then {w' = w'} p q = grind arith

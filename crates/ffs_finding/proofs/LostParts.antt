@@ -9,7 +9,7 @@ use Rattle.ffs_report.{specs.{Sink.Sink, declared.fault.RunFault.RunFault}, proo
 use Rattle.ffs_image.specs.Known.{ForBytes, IsContents}
 use Rattle.ffs_workspace.specs.declared.workspace.Workspace.{Workspace}
 use Rattle.ffs_finding.specs.Claims.{WithBlocks}
-use Rattle.ffs_finding.specs.{Outcome.{PrintedTo, PrintsLines, any_line}, LostMaps.lines_of_groups}
+use Rattle.ffs_finding.specs.{Outcome.{PrintedOf, PrintsLines, any_line}, LostMaps.lines_of_groups}
 use Rattle.ffs_finding.{specs.declared.lost.Wrong.TheVariants.{Lost, MarkedFree}, proofs.LostGroups.both}
 use Rattle.ffs_finding.proofs.Printing.{PrintedWhether, any_more, begins, concat-append, knowing, part, part_fault}
 
@@ -25,7 +25,7 @@ module _ (v : Layout) (d : Device) (w : Workspace) where
 
   -- the first list was printed
   one : (a b : Sink) (x : Bool) → PrintsLines {T = Bool} (IsContents d.contents) first a b (Ok x) →
-      PrintedTo (WithBlocks v d w) second (λ b. lost_lines v b) a b
+      PrintedOf (WithBlocks v d w) second (λ b. lost_lines v b) a b
   one a b x p = part (WithBlocks v d w) (λ b. lost_lines v b) first second (λ b. lost_lines v b) a a b
       (begins _ _ a) (both v d w) (knowing Bool _ (WithBlocks v d w) first a b (Ok x) (λ b k. k.0) p)
 
@@ -47,8 +47,8 @@ module _ (v : Layout) (d : Device) (w : Workspace) where
       (knowing Bool _ (WithBlocks v d w) second b c (Err fault) (λ b k. k.0) q)
 
   -- both lists were printed
-  pub printed_both : (a b c : Sink) (x y : Bool) → (p : PrintedTo (IsContents d.contents) (λ b. []) first a b) →
-      x ≡ any_line p.lines → (q : PrintedTo (IsContents d.contents) (λ b. []) second b c) → y ≡ any_line q.lines →
+  pub printed_both : (a b c : Sink) (x y : Bool) → (p : PrintedOf (IsContents d.contents) (λ b. []) first a b) →
+      x ≡ any_line p.lines → (q : PrintedOf (IsContents d.contents) (λ b. []) second b c) → y ≡ any_line q.lines →
       PrintedWhether (WithBlocks v d w) (λ b. []) (λ b. lost_lines v b) (x || y) a c
   printed_both a b c x y p some q more = record {
     printed = record {

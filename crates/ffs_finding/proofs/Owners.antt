@@ -12,7 +12,7 @@ use Rattle.ffs_volume.specs.{declared.Layout.Layout, Find.Owner.{keeper_lines, k
 use Rattle.ffs_volume.specs.Encodings.Notes.{cut_in, note_at}
 use Rattle.ffs_workspace.proofs.{KindLaws.reports_at, NoteLaws.cut_is_noted}
 use Rattle.ffs_claims.proofs.Numbers.{is_inside}
-use Rattle.ffs_walk.specs.KeptRuns.{kept_runs}
+use Rattle.ffs_walk.specs.SeenRuns.{seen_runs}
 use Rattle.ffs_finding.{specs.Keepers.lines_of_runs, proofs.{Replayed.inode_replay}}
 
 -- the lines of the inodes from n on
@@ -40,7 +40,7 @@ cut_ends v b n note g low high e = grind (arith, cut_is_noted, cut_is)
 
 -- the lines of an inode, replayed by its noted cut
 pub listed_inode : (v : Layout) (b : List ℕ) (f n note : ℕ) → IsAcceptedLayout v → 2 ≤ n → n < inodes_of v →
-    note ≡ note_at v b n → lines_of_runs f n 0 (kept_runs v (cut_in note) fresh_replay (steps_of v (inode_of v b n) b))
+    note ≡ note_at v b n → lines_of_runs f n 0 (seen_runs v (cut_in note) fresh_replay (steps_of v (inode_of v b n) b))
     ≡ keeper_lines_of_inode v b f n
 unfolding keeper_lines_of_inode
 listed_inode v b f n note g low high e = grind (arith, cut_ends, inode_replay)

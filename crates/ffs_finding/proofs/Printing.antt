@@ -5,19 +5,19 @@ use Rattle.ffs_report.specs.{Sink.{Sink, Took, BrokeOff}, declared.fault.RunFaul
 use Rattle.ffs_image.specs.Known.{ForBytes}
 use Rattle.ffs_report.{specs.declared.fault.RunFault.TheVariants.{Read, Out}, proofs.Sinks.{took_nil, took_then}}
 use Rattle.ffs_report.proofs.Sinks.{broke_off_after}
-use Rattle.ffs_finding.specs.Outcome.{FirstLines, PrintedTo, PrintsLines, any_line}
+use Rattle.ffs_finding.specs.Outcome.{FirstLines, PrintedOf, PrintsLines, any_line}
 
 -- the bytes of lines and of others after them
 pub concat-append : (xs ys : List (List ℕ)) → concat (xs ++ ys) ≡ concat xs ++ concat ys
 concat-append [] ys = refl
 concat-append (x ∷ xs) ys = grind (arith, append_assoc, concat-append xs ys)
 
-pub begins : (knows : List ℕ → Type 0) (all : List ℕ → List (List ℕ)) (a : Sink) → PrintedTo knows all all a a
+pub begins : (knows : List ℕ → Type 0) (all : List ℕ → List (List ℕ)) (a : Sink) → PrintedOf knows all all a a
 begins knows all a = record { lines = []; right = λ bytes k. refl; took = took_nil a }
 
 pub prints : (knows : List ℕ → Type 0) (rest rest' all : List ℕ → List (List ℕ)) (ms : List (List ℕ)) (a b c : Sink) →
-    PrintedTo knows rest all a b → ForBytes knows (λ bytes. rest bytes ≡ ms ++ rest' bytes) → Took b c (concat ms) →
-    PrintedTo knows rest' all a c
+    PrintedOf knows rest all a b → ForBytes knows (λ bytes. rest bytes ≡ ms ++ rest' bytes) → Took b c (concat ms) →
+    PrintedOf knows rest' all a c
 prints knows rest rest' all ms a b c p e q = record {
   lines = p.lines ++ ms;
   right = λ bytes k. grind (arith, append_assoc, e bytes k, p.right bytes k);
@@ -25,7 +25,7 @@ prints knows rest rest' all ms a b c p e q = record {
 }
 
 pub stops : (knows : List ℕ → Type 0) (rest rest' all : List ℕ → List (List ℕ)) (ms : List (List ℕ)) (a b c : Sink) →
-    PrintedTo knows rest all a b → ForBytes knows (λ bytes. rest bytes ≡ ms ++ rest' bytes) →
+    PrintedOf knows rest all a b → ForBytes knows (λ bytes. rest bytes ≡ ms ++ rest' bytes) →
     BrokeOff b c (concat ms) → FirstLines knows all (BrokeOff a c)
 stops knows rest rest' all ms a b c p e q = record {
   lines = p.lines ++ ms;
@@ -36,11 +36,11 @@ stops knows rest rest' all ms a b c p e q = record {
 
 -- all was printed at once
 pub prints_all : {knows : List ℕ → Type 0} {all : List ℕ → List (List ℕ)} {ms : List (List ℕ)} {a b : Sink} →
-    ForBytes knows (λ bytes. all bytes ≡ ms) → Took a b (concat ms) → PrintedTo knows (λ bytes. []) all a b
+    ForBytes knows (λ bytes. all bytes ≡ ms) → Took a b (concat ms) → PrintedOf knows (λ bytes. []) all a b
 prints_all {knows} {all} {ms} e p = grind (arith, append-nil)
 
 pub prints_none : {knows : List ℕ → Type 0} {all : List ℕ → List (List ℕ)} {a : Sink} →
-    ForBytes knows (λ bytes. all bytes ≡ []) → PrintedTo knows (λ bytes. []) all a a
+    ForBytes knows (λ bytes. all bytes ≡ []) → PrintedOf knows (λ bytes. []) all a a
 prints_none {knows} {all} {a} e = prints_all e (took_nil a)
 
 pub stops_all : {knows : List ℕ → Type 0} {all : List ℕ → List (List ℕ)} {ms : List (List ℕ)} {a b : Sink} →
@@ -54,7 +54,7 @@ stops_all {knows} {all} {ms} e p = record {
 
 -- a read failed after some lines, and before anything was printed
 pub reads_after : {knows : List ℕ → Type 0} {rest all : List ℕ → List (List ℕ)} {a b : Sink} →
-    PrintedTo knows rest all a b → FirstLines knows all (Took a b)
+    PrintedOf knows rest all a b → FirstLines knows all (Took a b)
 reads_after {rest = rest} p = record { lines = p.lines; rest = rest; right = p.right; outcome = p.took }
 
 pub reads_first : {knows : List ℕ → Type 0} {all : List ℕ → List (List ℕ)} {a : Sink} →
@@ -71,8 +71,8 @@ one_broken {a} {b} {text} p = rw (append-nil text) p
 -- ---- a part of the lines
 -- a part was printed
 pub part : (knows : List ℕ → Type 0) (rest this rest' all : List ℕ → List (List ℕ)) (a b c : Sink) →
-    PrintedTo knows rest all a b → ForBytes knows (λ bytes. rest bytes ≡ this bytes ++ rest' bytes) →
-    PrintedTo knows (λ bytes. []) this b c → PrintedTo knows rest' all a c
+    PrintedOf knows rest all a b → ForBytes knows (λ bytes. rest bytes ≡ this bytes ++ rest' bytes) →
+    PrintedOf knows (λ bytes. []) this b c → PrintedOf knows rest' all a c
 part knows rest this rest' all a b c p e q = record {
   lines = p.lines ++ q.lines;
   right = λ bytes k. grind (arith, append_assoc, append-nil, p.right bytes k, q.right bytes k, e bytes k);
@@ -88,7 +88,7 @@ part_right knows rest this rest' all more xs ys p e q = grind (arith, append_ass
 
 -- a fault came in a part
 pub part_fault : (T E : Type 0) (knows : List ℕ → Type 0) (rest this rest' all : List ℕ → List (List ℕ)) (a b c : Sink)
-    (fault : RunFault) → PrintedTo knows rest all a b →
+    (fault : RunFault) → PrintedOf knows rest all a b →
     ForBytes knows (λ bytes. rest bytes ≡ this bytes ++ rest' bytes) →
     PrintsLines {T = T} knows this b c (Err fault) → PrintsLines {T = E} knows all a c (Err fault)
 part_fault T E knows rest this rest' all a b c (Read fault) p e q = record {
@@ -122,7 +122,7 @@ text_at_begin (x ∷ xs) ys some = refl
 -- whole lines were printed, and `any` says whether there was one
 pub record PrintedWhether (knows : List ℕ → Type 0) (rest all : List ℕ → List (List ℕ)) (any : Bool) (old new : Sink) :
     Type 0 where
-  pub printed : PrintedTo knows rest all old new
+  pub printed : PrintedOf knows rest all old new
   pub any_is : any ≡ any_line printed.lines
 
 pub prints_whether : (knows : List ℕ → Type 0) (rest rest' all : List ℕ → List (List ℕ)) (ms : List (List ℕ))
@@ -140,8 +140,8 @@ prints_whether knows rest rest' all ms any found a b c p e q here = record {
 
 -- where more is known, and with that these are the same lines
 abbrev pub printed_knowing : {knows knows' : List ℕ → Type 0} {rest all all' : List ℕ → List (List ℕ)} {a b : Sink} →
-    ForBytes knows' (λ bytes. knows bytes × (all bytes ≡ all' bytes)) → PrintedTo knows rest all a b →
-    PrintedTo knows' rest all' a b
+    ForBytes knows' (λ bytes. knows bytes × (all bytes ≡ all' bytes)) → PrintedOf knows rest all a b →
+    PrintedOf knows' rest all' a b
 printed_knowing more p = record {
   lines = p.lines;
   right = λ bytes k. p.right bytes (more bytes k).0 ∙ (more bytes k).1;

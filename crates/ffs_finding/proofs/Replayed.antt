@@ -9,8 +9,8 @@ use Rattle.ffs_volume.specs.Encodings.Replay.{fresh_replay, cut_of}
 use Rattle.ffs_volume.specs.{declared.{Layout.Layout, Step.{Step, TheVariants.{Run}}}}
 use Rattle.ffs_volume.specs.Find.Owner.{indirect_in, keeper_lines_of_step, keeper_lines_of_steps}
 use Rattle.ffs_walk.specs.Keepings.{run_taken}
-use Rattle.ffs_walk.specs.{KeptRuns.{indirect_by, kept_runs, step_run}, declared.kept_runs.KeptRun.KeptRun}
-use Rattle.ffs_walk.specs.KeptRuns.{indirect_in_run}
+use Rattle.ffs_walk.specs.{SeenRuns.{indirect_by, seen_runs, step_run}, declared.seen_runs.SeenRun.SeenRun}
+use Rattle.ffs_walk.specs.SeenRuns.{indirect_in_run}
 use Rattle.ffs_claims.{specs.RescanRuns.offers_of_runs, proofs.RescanCounts.step_again}
 use Rattle.ffs_finding.specs.{Keepers.{is_in_run, lines_of_runs, lines_of_run, run_text}, declared.owner.Sought.Sought}
 
@@ -21,10 +21,10 @@ any_in_range : (f x start taken : ℕ) → list_any (λ o. o.fragment == f) (map
 any_in_range f x start zero = grind (arith, nat_tests)
 any_in_range f x start (suc taken) = let more = any_in_range f x (start + 1) taken in grind (arith, nat_tests)
 
-any_in_run : (f x : ℕ) (run : KeptRun) → list_any (λ o. o.fragment == f) (offers_of_runs x (run ∷ []))
-    ≡ is_in_run f run.start run.taken
-any_in_run f x run = rw (append-nil (map (offer_of x) (range_with_len run.start run.taken)))
-    (any_in_range f x run.start run.taken)
+any_in_run : (f x : ℕ) (run : SeenRun) → list_any (λ o. o.fragment == f) (offers_of_runs x (run ∷ []))
+    ≡ is_in_run f run.start run.kept
+any_in_run f x run = rw (append-nil (map (offer_of x) (range_with_len run.start run.kept)))
+    (any_in_range f x run.start run.kept)
 
 -- the Run of a step, and what it counts
 same_count : (start len : ℕ) (block : Option ℕ) → indirect_in (Run start len block) ≡ indirect_by block
@@ -34,8 +34,8 @@ same_count start len (Some block) = refl
 -- as long as the inode isn't cut, as many indirect blocks were seen as came
 lines_replay : (v : Layout) (f x earlier seen : ℕ) (s : Claims) (steps : List Step) → s.dup_offers ≤ s.kept →
     (is_open s ≡ true → earlier ≡ seen) → keeper_lines_of_steps v f x earlier s steps
-    ≡ lines_of_runs f x seen (kept_runs v (cut_of (after_steps v s steps)) (replay_of s) steps)
-unfolding lines_of_runs kept_runs
+    ≡ lines_of_runs f x seen (seen_runs v (cut_of (after_steps v s steps)) (replay_of s) steps)
+unfolding lines_of_runs seen_runs
 lines_replay v f x earlier seen s [] few same = refl
 lines_replay v f x earlier seen s (Run start len block ∷ steps) few same =
     let step = Run start len block in
@@ -48,9 +48,9 @@ lines_replay v f x earlier seen s (Run start len block ∷ steps) few same =
       | inl going ↦
           let more = lines_replay v f x (earlier + indirect_in step) (seen + indirect_by block) (after_step v s step) steps
           (step_few v s step few) (λ q. ap (λ n. n + indirect_in step) (same going) ∙ ap (λ n. seen + n) count) in
-          let run : KeptRun = record { start = start; taken = run_taken v cut (replay_of s) start len; block = block } in
+          let run : SeenRun = record { start = start; kept = run_taken v cut (replay_of s) start len; block = block } in
           let seen_one : step_run v cut (replay_of s) step ≡ run ∷ [] = rw (going_on ∙ going) refl in
-          let keeps : list_any (λ o. o.fragment == f) (kept_in_step v x s step) ≡ is_in_run f start run.taken =
+          let keeps : list_any (λ o. o.fragment == f) (kept_in_step v x s step) ≡ is_in_run f start run.kept =
           ap (list_any (λ o. o.fragment == f)) (one ∙ ap (offers_of_runs x) seen_one) ∙ any_in_run f x run in
           let line : keeper_lines_of_step v f x earlier s step ≡ lines_of_run f x seen run = rw (keeps, same going) refl in
           rw (seen_one, after, line, more) refl
@@ -68,21 +68,21 @@ lines_replay v f x earlier seen s (other ∷ steps) few same =
 -- those of an inode
 pub inode_replay : (v : Layout) (f x : ℕ) (s : Claims) (steps : List Step) →
     keeper_lines_of_steps v f x 0 (at_next_inode s) steps
-    ≡ lines_of_runs f x 0 (kept_runs v (cut_of (after_steps v (at_next_inode s) steps)) fresh_replay steps)
+    ≡ lines_of_runs f x 0 (seen_runs v (cut_of (after_steps v (at_next_inode s) steps)) fresh_replay steps)
 inode_replay v f x s steps = lines_replay v f x 0 0 (at_next_inode s) steps (omega arith) (λ q. refl)
 
 -- ---- how a walk continues
 -- the text of a Run
-pub text_is : (s : Sought) (earlier : ℕ) (run : KeptRun) →
+pub text_is : (s : Sought) (earlier : ℕ) (run : SeenRun) →
     run_text s earlier run ≡ concat (lines_of_run s.fragment s.number earlier run)
 text_is s earlier run = grind (arith, append-nil)
 
-pub lines_next : (f x earlier earlier' : ℕ) (run : KeptRun) (R R' : List KeptRun) → R ≡ run ∷ R' →
+pub lines_next : (f x earlier earlier' : ℕ) (run : SeenRun) (R R' : List SeenRun) → R ≡ run ∷ R' →
     earlier' ≡ earlier + indirect_in_run run →
     lines_of_runs f x earlier R ≡ lines_of_run f x earlier run ++ lines_of_runs f x earlier' R'
 unfolding lines_of_runs
 lines_next f x earlier earlier' run R R' e more = rw (e, more) refl
 
-pub lines_none : (f x earlier : ℕ) (R : List KeptRun) → R ≡ [] → lines_of_runs f x earlier R ≡ []
+pub lines_none : (f x earlier : ℕ) (R : List SeenRun) → R ≡ [] → lines_of_runs f x earlier R ≡ []
 unfolding lines_of_runs
 lines_none f x earlier R e = rw e refl

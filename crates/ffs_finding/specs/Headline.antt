@@ -18,7 +18,7 @@ use Rattle.ffs_layout.specs.Super.{IsUnreadable, ReadsSuper}
 use Rattle.ffs_finding.specs.declared.request.Target.{Target, TheVariants.{Inode, Fields, Lost, Owner}}
 use Rattle.ffs_finding.specs.declared.request.Command.{Command, TheVariants.{Copies, InVolume}}
 use Rattle.ffs_finding.specs.declared.find.FindFault.{FindFault, TheVariants.{Refused, Failed, NoMemory}}
-use Rattle.ffs_finding.specs.{Outcome.{Finds, PrintedTo, any_line}, Fields.WithSuper}
+use Rattle.ffs_finding.specs.{Outcome.{Finds, PrintedOf, any_line}, Fields.WithSuper}
 use Rattle.ffs_finding.specs.{Copies.{ReadsCopies, window_bytes}}
 use Rattle.ffs_volume.specs.Disk.Areas.{FitsIn}
 use Rattle.ffs_workspace.specs.Ready.{workspace_requests}
@@ -64,7 +64,7 @@ status_of_answer defect = if defect then 1 else 0
 -- all lines were printed, and the answer is whether one of them is a defect
 pub record PrintedAll (are_defects : Bool) (knows : List ℕ → Type 0) (all : List ℕ → List (List ℕ)) (old new : Sink)
     (defect : Bool) : Type 0 where
-  pub printed : PrintedTo knows (λ b. []) all old new
+  pub printed : PrintedOf knows (λ b. []) all old new
   pub defect_is : defect ≡ (are_defects && any_line printed.lines)
 
 -- how lines are printed, by an answer: all of them, which says whether one is a defect; whole ones where a read failed;

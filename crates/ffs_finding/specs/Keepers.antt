@@ -9,7 +9,7 @@ use Rattle.ffs_volume.specs.Encodings.Notes.{cut_in}
 use Rattle.ffs_image.specs.Device.{Device, ForContents}
 use Rattle.ffs_report.specs.declared.fault.RunFault.{RunFault}
 use Rattle.ffs_image.specs.Known.{ForBytes, IsContents}
-use Rattle.ffs_walk.specs.{KeptRuns.{indirect_in_run, kept_runs}, Windows.WindowHolds, declared.kept_runs.KeptRun.KeptRun}
+use Rattle.ffs_walk.specs.{SeenRuns.{indirect_in_run, seen_runs}, Windows.WindowHolds, declared.seen_runs.SeenRun.SeenRun}
 use Rattle.ffs_walk.specs.declared.window.Window.{Window}
 use Rattle.ffs_workspace.specs.{Ready.CanRead, declared.workspace.Workspace.Workspace}
 use Rattle.ffs_finding.specs.Claims.{WithBlocks}
@@ -41,23 +41,23 @@ is_in_run f start taken = nat_le start f && nat_lt f (start + taken)
 
 -- the bytes of the line of a Run, if one of its fragments that are kept is sought. `earlier` counts the indirect
 -- blocks of the inode before it
-abbrev pub run_text : Sought → (earlier : ℕ) → KeptRun → List ℕ
+abbrev pub run_text : Sought → (earlier : ℕ) → SeenRun → List ℕ
 run_text s earlier run =
-    if is_in_run s.fragment run.start run.taken then keeper_text s.number earlier run.block else []
+    if is_in_run s.fragment run.start run.kept then keeper_text s.number earlier run.block else []
 
 -- the line of a Run, and the lines of Runs
-abbrev pub lines_of_run : (f x earlier : ℕ) → KeptRun → List (List ℕ)
+abbrev pub lines_of_run : (f x earlier : ℕ) → SeenRun → List (List ℕ)
 lines_of_run f x earlier run =
-    if is_in_run f run.start run.taken then keeper_text x earlier run.block ∷ [] else []
+    if is_in_run f run.start run.kept then keeper_text x earlier run.block ∷ [] else []
 
-unfoldable pub lines_of_runs : (f x earlier : ℕ) → List KeptRun → List (List ℕ)
+unfoldable pub lines_of_runs : (f x earlier : ℕ) → List SeenRun → List (List ℕ)
 lines_of_runs f x earlier [] = []
 lines_of_runs f x earlier (run ∷ runs) =
     lines_of_run f x earlier run ++ lines_of_runs f x (earlier + indirect_in_run run) runs
 
 -- the lines of a fragment in an inode with this cut, whose blocks have these steps
 abbrev pub sought_lines : Layout → Sought → List Step → List (List ℕ)
-sought_lines v s steps = lines_of_runs s.fragment s.number 0 (kept_runs v s.cut fresh_replay steps)
+sought_lines v s steps = lines_of_runs s.fragment s.number 0 (seen_runs v s.cut fresh_replay steps)
 
 -- an inode was walked over: its lines were printed, and the image was read at most once for each Run that
 -- is seen

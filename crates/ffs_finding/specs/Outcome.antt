@@ -7,7 +7,7 @@ use Rattle.ffs_report.specs.declared.fault.RunFault.{RunFault, TheVariants.{Read
 use Rattle.ffs_check.specs.Moment.{Moment}
 
 -- whole lines were printed, and with `rest`, those that are to come, they are `all`
-pub record PrintedTo (knows : List ℕ → Type 0) (rest all : List ℕ → List (List ℕ)) (old new : Sink) : Type 0 where
+pub record PrintedOf (knows : List ℕ → Type 0) (rest all : List ℕ → List (List ℕ)) (old new : Sink) : Type 0 where
   pub lines : List (List ℕ)
   pub right : ForBytes knows (λ bytes. lines ++ rest bytes ≡ all bytes)
   pub took : Took old new (concat lines)
@@ -24,7 +24,7 @@ pub record FirstLines (knows : List ℕ → Type 0) (all : List ℕ → List (Li
 -- all lines at Ok, whole ones at a read's fault, a prefix of their bytes at a fault of the output
 abbrev pub PrintsLines : {T : Type 0} → (List ℕ → Type 0) → (List ℕ → List (List ℕ)) → (old new : Sink) →
     Result T RunFault → Type 0
-PrintsLines knows all old new (Ok x) = PrintedTo knows (λ bytes. []) all old new
+PrintsLines knows all old new (Ok x) = PrintedOf knows (λ bytes. []) all old new
 PrintsLines knows all old new (Err (Read fault)) = FirstLines knows all (Took old new)
 PrintsLines knows all old new (Err (Out fault)) = FirstLines knows all (BrokeOff old new)
 

@@ -7,8 +7,8 @@ ghost use Rattle.ffs_volume.specs.Find.Owner.{keeper_text, keeper_lines, map_tex
 ghost use Rattle.ffs_volume.specs.{Find.Owner.{part_text, reserved_text, table_text}, Encodings.Notes.cut_in};
 ghost use Rattle.ffs_report.specs.Sink.{Prints};
 ghost use Rattle.ffs_image.specs.Known.{IsContents};
-ghost use Rattle.ffs_walk.specs.{KeptRuns.indirect_in_run, Windows.{CanWalk, KeepsBlocks}};
-ghost use Rattle.ffs_workspace.specs.Ready.{CanRead, IsReady, KeepsWindows};
+ghost use Rattle.ffs_walk.specs.{SeenRuns.indirect_in_run, Windows.{CanWalk, KeepsBlocks}};
+ghost use Rattle.ffs_workspace.specs.Ready.{CanRead, IsReady, LeavesAllButWindows};
 ghost use Rattle.ffs_check.specs.Moment.{moment};
 ghost use Rattle.ffs_finding.specs.{Claims.WithBlocks, Outcome.Finds, Keepers.{CanFindKeeper, CanPrintMap, CanReadMap}};
 ghost use Rattle.ffs_finding.specs.LostMaps.{IsBlockWindow};
@@ -22,7 +22,7 @@ use ffs_report::print::{print, print_number, print_pieces};
 use ffs_report::{OutFault, Output, Piece, RunFault};
 use ffs_volume::Inode;
 use ffs_volume::constants::{DINODE_SIZE, ROOTINO};
-use ffs_walk::{Blocks, KeptRun, KeptRuns, Window};
+use ffs_walk::{Blocks, SeenRun, SeenRuns, Window};
 use ffs_workspace::{Workspace, sweep_reads};
 
 /// Prints which fragment of the inode table of a group this is, by its inodes.
@@ -162,12 +162,12 @@ fn print_run<W: Output>(
     out: &mut W,
     sought: Sought,
     earlier: u64,
-    run: KeptRun,
+    run: SeenRun,
 ) -> Result<(), OutFault>
     requires { earlier + 1 < 2 ^ 64 }
     ensures { Prints (W.sink out.old) (W.sink out.new) (run_text sought earlier run) result }
 {
-    if sought.fragment < run.start || sought.fragment - run.start >= run.taken {
+    if sought.fragment < run.start || sought.fragment - run.start >= run.kept {
         return Ok(());
     }
     let number = u64::from(sought.number);
@@ -186,7 +186,7 @@ fn print_run<W: Output>(
 }
 
 /// 1 for the Run of an indirect block, else 0.
-fn indirect_in(run: KeptRun) -> u64
+fn indirect_in(run: SeenRun) -> u64
     ensures { result ≡ indirect_in_run run }
 {
     match run.block {
@@ -213,7 +213,7 @@ fn find_kept_offers<I: Image, W: Output>(
     ensures blocks { KeepsBlocks geometry.now.layout (I.device image.new).contents blocks.old
         blocks.new }
 {
-    let mut runs = KeptRuns::start(geometry, inode, sought.cut);
+    let mut runs = SeenRuns::start(geometry, inode, sought.cut);
     let mut earlier = 0;
     while let Some(run) = runs.next(image, blocks)? {
         print_run(out, sought, earlier, run)?;
@@ -235,7 +235,7 @@ fn find_keeper<I: Image, W: Output>(
     ensures finds { FindsKeeper geometry.now.layout (sought_in fragment number workspace.old)
         (moment I.Image W.Output image.old out.old) (moment I.Image W.Output image.new out.new)
         result }
-    ensures stays { KeepsWindows geometry.now.layout (I.device image.new) workspace.old
+    ensures stays { LeavesAllButWindows geometry.now.layout (I.device image.new) workspace.old
         workspace.new }
 {
     let windows = &mut workspace.windows;
@@ -270,7 +270,7 @@ fn find_keepers_unlimited<I: Image, W: Output>(
     ensures finds { FindsAllKeepers geometry.now.layout fragment workspace.old
         (moment I.Image W.Output image.old out.old) (moment I.Image W.Output image.new out.new)
         result }
-    ensures stays { KeepsWindows geometry.now.layout (I.device image.new) workspace.old
+    ensures stays { LeavesAllButWindows geometry.now.layout (I.device image.new) workspace.old
         workspace.new }
 {
     for number in ROOTINO..geometry.inodes() {
@@ -296,7 +296,7 @@ fn find_keepers<I: Image, W: Output>(
         (λ bytes. keeper_lines geometry.now.layout bytes fragment)
         (moment I.Image W.Output image.old out.old) (moment I.Image W.Output image.new out.new)
         result }
-    ensures stays { KeepsWindows geometry.now.layout (I.device image.new) workspace.old
+    ensures stays { LeavesAllButWindows geometry.now.layout (I.device image.new) workspace.old
         workspace.new }
     ensures reads { I.reads image.new ≤ I.reads image.old + sweep_reads geometry.now.layout }
 {

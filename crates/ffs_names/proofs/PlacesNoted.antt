@@ -289,19 +289,19 @@ set_same f ws i word low same x = elim (cases_eq x i) [
 
 -- what the survey found is held, with places that are right, and the claims are
 pub survey_noted : {v : Layout} {b : List ℕ} {old new : Workspace} →
-    new ≡ record old { windows = new.windows; queue = new.queue } → HoldsSurvey v b old →
-    AreParts v b new.queue.items → HoldsSurvey v b new
+    new ≡ record old { windows = new.windows; words = new.words } → HoldsSurvey v b old →
+    AreParts v b new.words.items → HoldsSurvey v b new
 survey_noted e h right = grind arith
 
 pub claims_noted : {v : Layout} {b : List ℕ} {old new : Workspace} →
-    new ≡ record old { windows = new.windows; queue = new.queue } → HoldsBlockCheck v b old → HoldsBlockCheck v b new
+    new ≡ record old { windows = new.windows; words = new.words } → HoldsBlockCheck v b old → HoldsBlockCheck v b new
 claims_noted {v = v} {b = b} {old = old} e h = grind (arith, counts_same)
 
--- the windows hold what the image gives after the table, windows of chunks and the queue were used
+-- the windows hold what the image gives after the table, windows of chunks and the words were used
 pub ready_noted : {v : Layout} {d d'' : Device} {w : Workspace} {table : Table} {blocks : Blocks} {chunk : Window}
-    {queue : Vec ℕ Global} (d' : Device) → d'.contents ≡ d.contents → TableHolds v d'.contents table → d''.contents ≡
-    d'.contents → CanReadChunks v d'' blocks chunk → vec_len queue ≡ vec_len w.queue → CanRead v d w → CanRead v d''
-    (record w { queue = queue; windows = record w.windows { table = table; blocks = blocks; current = chunk } })
+    {words : Vec ℕ Global} (d' : Device) → d'.contents ≡ d.contents → TableHolds v d'.contents table → d''.contents ≡
+    d'.contents → CanReadChunks v d'' blocks chunk → vec_len words ≡ vec_len w.words → CanRead v d w → CanRead v d''
+    (record w { words = words; windows = record w.windows { table = table; blocks = blocks; current = chunk } })
 ready_noted d' first kept second can long r = grind arith
 
 -- what was read, where the directory of the next word isn't to be read any more

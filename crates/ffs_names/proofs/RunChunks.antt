@@ -7,11 +7,11 @@ use Rattle.ffs_walk.proofs.{Areas.in_range-below, Ranges.range_step}
 use Rattle.ffs_names.specs.{RunCursors.cursor_chunks, declared.run_cursor.RunCursor.RunCursor}
 
 -- a Run after what is read has none
-pub no_chunks : (r : ChunkSource) (start len offset : ℕ) → r.taken ≤ offset → run_chunks r start len offset ≡ []
+pub no_chunks : (r : ChunkSource) (start len offset : ℕ) → r.read_bytes ≤ offset → run_chunks r start len offset ≡ []
 no_chunks r start len offset h = grind arith
 
 pub none_far : (v : Layout) (r : ChunkSource) (start len block : ℕ) → IsAcceptedLayout v → 2147483648 ≤ block →
-    r.taken ≤ 2147483648 → run_chunks r start len (block * v.bsize) ≡ []
+    r.read_bytes ≤ 2147483648 → run_chunks r start len (block * v.bsize) ≡ []
 none_far v r start len block g far few = grind (arith, mul-le-mul_left, no_chunks)
 
 -- a Run in range lies in the volume, and has a block's bytes at most

@@ -7,7 +7,7 @@ use Rattle.ffs_volume.specs.Blocks.{Claims.{Claims, all_claims}, KeptSteps.claim
 use Rattle.ffs_volume.specs.{Directories.{Roles.is_dir, Volumes.{is_inode_number, volume_of}}, Report.Whole.run_count}
 use Rattle.ffs_volume.specs.{Laws.Geometry.IsAcceptedLayout, declared.Layout.Layout, Costs.DirectoryReads.costs_all}
 use Rattle.ffs_volume.specs.Costs.DirectoryReads.{directories_cost, directory_cost}
-use Rattle.ffs_names.{specs.SeenRuns.RunsAreSeen, proofs.{DirCosts.{cost_is, cost_none}, DirLaws.dir_is}}
+use Rattle.ffs_names.{specs.RunsAreSeen.RunsAreSeen, proofs.{DirCosts.{cost_is, cost_none}, DirLaws.dir_is}}
 
 pub runs_seen_by : RunsAreSeen
 unfolding owner_of

@@ -17,7 +17,7 @@
 --
 -- Its entries: `EntriesToCome` has those of a chunk that are still to come, `Entering` those of the directory, and
 -- `Shapes` says what a reading shows of the directory's shape. `Leaves` is what calls leave that read chunks or
--- entries, and `SeenRuns` that the Runs which they look at are those of the block check.
+-- entries, and `RunsAreSeen` that the Runs which they look at are those of the block check.
 --
 -- All directories: `Readers` what the survey of ffs_survey goes over, `CalmDirs` which flags it sets, `Surveys` what
 -- it finds and leaves, and `Noting` the places of parent entries.
@@ -31,7 +31,7 @@ pub mod EntriesToCome
 pub mod Entering
 pub mod Shapes
 pub mod Leaves
-pub mod SeenRuns
+pub mod RunsAreSeen
 pub mod Readers
 pub mod CalmDirs
 pub mod Surveys

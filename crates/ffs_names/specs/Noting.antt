@@ -95,9 +95,9 @@ pub record NotesChildren (parents old new : List ℕ) (p : ℕ) : Type 0 where
 -- at most as often as the directory asks for
 pub record NotesDirectory {T : Type 0} (v : Layout) (b : List ℕ) (p : ℕ) (old new : WorkMoment)
     (result : Result T ImageFault) : Type 0 where
-  pub right : NotesRight v b (roled_entries (volume_of v b) p) old.workspace.queue.items new.workspace.queue.items
+  pub right : NotesRight v b (roled_entries (volume_of v b) p) old.workspace.words.items new.workspace.words.items
   pub each : OnOk result (NotesEach v b (is_child_of old.workspace.parents.items p) (roled_entries (volume_of v b) p)
-      old.workspace.queue.items new.workspace.queue.items)
+      old.workspace.words.items new.workspace.words.items)
   pub counted : new.reads ≤ old.reads + noted_directory_cost v b p
 
 -- p is the parent of a reached inode with a number greater than the root's
@@ -132,7 +132,7 @@ pub record BeginsNotes (reached : List Bool) (parents : List ℕ) (words : Vec �
 -- reached and isn't the root
 pub record HoldsPlaces (v : Layout) (b : List ℕ) (w : Workspace) : Type 0 where
   pub survey : HoldsSurvey v b w
-  pub noted : AreNoted v b w.queue.items
+  pub noted : AreNoted v b w.words.items
 
 -- what a call leaves that notes the chunks of p that are to come: the other windows are as they were, only
 -- children of p are noted, in as many words, and the image is read at most as often as these chunks ask for
@@ -147,19 +147,19 @@ pub record NotingChunksLeaves {T : Type 0} (parents : Vec ℕ Global) (p : ℕ) 
   pub children : NotesChildren parents.items old.words.items new.words.items p
   pub long : vec_len new.words ≡ vec_len old.words
 
--- what a call leaves that notes places of children of p in `queue`: only the windows change beside it, and
+-- what a call leaves that notes places of children of p in `words`: only the windows change beside it, and
 -- hold what the image gives, which was only read
 pub record NotingDirectoryLeaves {T : Type 0} (v : Layout) (p : ℕ) (old new : WorkMoment) (result : Result T ImageFault)
     : Type 0 where
-  pub lists : new.workspace ≡ record old.workspace { windows = new.workspace.windows; queue = new.workspace.queue }
+  pub lists : new.workspace ≡ record old.workspace { windows = new.workspace.windows; words = new.workspace.words }
   pub ready : CanRead v new.image new.workspace
   pub read : ReadAfter old.image new.image result
-  pub children : NotesChildren old.workspace.parents.items old.workspace.queue.items new.workspace.queue.items p
+  pub children : NotesChildren old.workspace.parents.items old.workspace.words.items new.workspace.words.items p
 
--- what a call leaves that notes all places: only the windows and `queue` change, the windows hold what the
+-- what a call leaves that notes all places: only the windows and `words` change, the windows hold what the
 -- image gives, which was only read, and where no read failed nothing is to be read any more: no parent entry is due
 pub record NotingLeaves {T : Type 0} (v : Layout) (old new : WorkMoment) (result : Result T ImageFault) : Type 0 where
-  pub lists : new.workspace ≡ record old.workspace { windows = new.workspace.windows; queue = new.workspace.queue }
+  pub lists : new.workspace ≡ record old.workspace { windows = new.workspace.windows; words = new.workspace.words }
   pub ready : CanRead v new.image new.workspace
   pub read : ReadAfter old.image new.image result
-  pub none_due : OnOk result ((x : ℕ) → is_to_be_read (slice_index new.workspace.queue.items x) ≡ false)
+  pub none_due : OnOk result ((x : ℕ) → is_to_be_read (slice_index new.workspace.words.items x) ≡ false)

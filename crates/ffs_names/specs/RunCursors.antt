@@ -14,7 +14,7 @@ cursor_chunks v b cursor = map
 -- how a directory is read in an image of these bytes, where this many bytes of it are
 abbrev pub reading_by : Layout → List ℕ → ℕ → ChunkSource
 reading_by v b bytes_to_read =
-    record { order = v.order; image = b; bsize = v.bsize; fsize = v.fsize; taken = bytes_to_read }
+    record { order = v.order; image = b; bsize = v.bsize; fsize = v.fsize; read_bytes = bytes_to_read }
 
 -- a cursor over no chunks, in a volume of any layout
 pub record HasNoChunks (cursor : RunCursor) : Type 0 where

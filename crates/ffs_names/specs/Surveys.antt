@@ -10,12 +10,12 @@ use Rattle.ffs_workspace.specs.Holds.{HoldsBlockCheck, HoldsReferences, HoldsSur
 use Rattle.ffs_volume.specs.Costs.DirectoryReads.{noted_directories_cost}
 use Rattle.ffs_names.specs.{CalmDirs.FlagsEachCalm}
 
--- what a survey leaves: the workspace is ready for the next call, `queue` is zero, so that it notes no
+-- what a survey leaves: the workspace is ready for the next call, `words` is zero, so that it notes no
 -- place of a parent entry, and the image was only read. After a failed read it counts as not surveyed
 pub record SurveyLeaves {T : Type 0} (v : Layout) (d d' : Device) (old new : Workspace) (result : Result T ImageFault) :
     Type 0 where
   pub same : LeavesBlockCheck old new
-  pub unnoted : (x : ℕ) → slice_index new.queue.items x ≡ 0
+  pub unnoted : (x : ℕ) → slice_index new.words.items x ≡ 0
   pub ready : IsReady v d' new
   pub read : ReadAfter d d' result
   pub unsurveyed : OnErr result (new.surveyed ≡ false)
@@ -24,7 +24,7 @@ pub record SurveyLeaves {T : Type 0} (v : Layout) (d d' : Device) (old new : Wor
 -- and no place is noted
 pub record SurveysNoMore (reads reads' : ℕ) (old new : Workspace) : Type 0 where
   pub unread : reads' ≡ reads
-  pub stays : new ≡ record old { flags = new.flags; queue = new.queue }
+  pub stays : new ≡ record old { flags = new.flags; words = new.words }
   pub unflagged : (x : ℕ) → bool_at new.flags.items x ≡ false
 
 -- `flags` has only directories that are calm by what was reached when each was read, and by the kinds and

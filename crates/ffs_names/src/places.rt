@@ -1,6 +1,6 @@
 //! Where the parent entries of directories are in the image.
 //!
-//! To note a place is to keep it in the list `queue` of the workspace, for the directory whose
+//! To note a place is to keep it in the list `words` of the workspace, for the directory whose
 //! parent entry is there. A note is another thing: what phase 1 left of an inode in the list
 //! `notes`.
 
@@ -159,7 +159,7 @@ fn chunks_of<I: Image>(
         let inode = one_chunk_at(address);
         return Ok(Chunks::of_class(geometry, &inode, Class::Dir, 0));
     }
-    let inode = table.inode_by_part(geometry, dir, image)?;
+    let inode = table.inode_by_piece(geometry, dir, image)?;
     Ok(Chunks::of_class(geometry, &inode, Class::Dir, cut_in(note)))
 }
 
@@ -193,7 +193,7 @@ fn note_directory<I: Image>(
         &mut chunks,
         dir,
         &workspace.parents,
-        &mut workspace.queue,
+        &mut workspace.words,
     )
 }
 
@@ -239,19 +239,19 @@ fn note_places_unlimited<I: Image>(
     ensures leaves { NotingLeaves geometry.now.layout (work_moment I.Image image.old workspace.old)
         (work_moment I.Image image.new workspace.new) result }
 {
-    flag_parents(&workspace.reached, &workspace.parents, &mut workspace.queue);
+    flag_parents(&workspace.reached, &workspace.parents, &mut workspace.words);
     for dir in ROOTINO..geometry.inodes() {
         // Here the bit says that the directory's chunks are due to be read.
-        let word = workspace.queue[dir as usize];
+        let word = workspace.words[dir as usize];
         if is_due(word) {
-            workspace.queue.set(dir as usize, without_due(word));
+            workspace.words.set(dir as usize, without_due(word));
             note_directory(geometry, image, workspace, dir)?;
         }
     }
     Ok(())
 }
 
-/// Notes in `queue`, of each directory that is reached from the root, where its parent entry is in
+/// Notes in `words`, of each directory that is reached from the root, where its parent entry is in
 /// the image (`ffs_workspace::word_of_part`): then a path takes one read for each of its
 /// directories. Each of their parents is read once at most. Afterwards no parent entry is due. The
 /// windows change too. No more reads are made than those of a sweep (`sweep_reads`).
@@ -289,7 +289,7 @@ pub fn note_places<I: Image>(
         // See `LimitedImage`: bytes that stay never ask for so many reads. Of others no place is
         // noted: the words of some directories may still have the bit that says that their chunks
         // are to be read.
-        workspace.queue.fill(0);
+        workspace.words.fill(0);
         return Ok(());
     }
     noted

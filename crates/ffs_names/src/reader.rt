@@ -87,7 +87,7 @@ impl<I: Image> Directories for DirectoryReader<'_, I> {
         let inode = self
             .windows
             .table
-            .inode_by_part(&self.geometry, dir, self.image)?;
+            .inode_by_piece(&self.geometry, dir, self.image)?;
         self.entries.restart(&inode, Class::Dir, cut_in(note));
         Ok(())
     }

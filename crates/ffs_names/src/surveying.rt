@@ -51,11 +51,11 @@ fn survey_unlimited<I: Image>(
         reached: &mut workspace.reached,
         parents: &mut workspace.parents,
         calm: &mut workspace.flags,
-        queue: &mut workspace.queue,
+        queue: &mut workspace.words,
     };
     let surveyed = survey_directories(&mut reader, &inodes, &mut found);
     // No place of a parent entry is noted yet.
-    workspace.queue.fill(0);
+    workspace.words.fill(0);
     workspace.surveyed = surveyed.is_ok();
     surveyed
 }
@@ -63,7 +63,7 @@ fn survey_unlimited<I: Image>(
 /// Finds how often each inode is referred to, which inodes a plain entry names, which directories
 /// are reached from the root, and the parent of each directory. Each directory is read once. In
 /// `flags` are then calm directories alone, of which nothing can be reported, and all that are calm
-/// by the image's bytes (`is_calm_directory`). `queue` is zero: it notes no place of a parent
+/// by the image's bytes (`is_calm_directory`). `words` is zero: it notes no place of a parent
 /// entry. The windows change too. What phase 1 left (claims, kinds, marks, notes, counts of Runs)
 /// stays as it was.
 ///
@@ -98,7 +98,7 @@ pub fn survey<I: Image>(
     if workspace.surveyed {
         // Other phases may have used both lists since.
         workspace.flags.fill(false);
-        workspace.queue.fill(0);
+        workspace.words.fill(0);
         return Ok(());
     }
     workspace.forget_windows();

@@ -64,7 +64,7 @@ before_next {v = v} {b = b} e s r k = record {
 
 -- the same, where places are noted
 pub noted_next : {v : Layout} {contents contents' : Option (List ℕ)} {old new : Workspace} {d d' : ℕ} {b : List ℕ} →
-    contents' ≡ contents → LeavesSurvey old new → KeepParts old.queue.items new.queue.items →
+    contents' ≡ contents → LeavesSurvey old new → KeepParts old.words.items new.words.items →
     RemembersBefore (volume_of v b) d' (passed_of new) → KnowsBeforeNoted v contents old d b →
     KnowsBeforeNoted v contents' new d' b
 noted_next {v = v} {b = b} e s keep r k = record {

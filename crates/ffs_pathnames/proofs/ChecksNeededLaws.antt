@@ -44,8 +44,8 @@ looked_at_next v b old new left keeps checks d h =
     let more = keeps d in
     grind arith
 
--- as where only the windows and the queue change
-pub flags_kept : (old new : Workspace) → new ≡ record old { windows = new.windows; queue = new.queue } →
+-- as where only the windows and the words change
+pub flags_kept : (old new : Workspace) → new ≡ record old { windows = new.windows; words = new.words } →
     KeepsFlags old new
 flags_kept old new lists x set = rw (ap (λ (w : Workspace). w.flags) lists) set
 

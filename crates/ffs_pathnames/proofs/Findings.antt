@@ -10,6 +10,6 @@ pub findings_more : (a b c : Workspace) → LeavesAllButPlaces a b → LeavesAll
 findings_more a b c s t = grind arith
 
 -- where only the windows and the places that are noted have changed
-pub findings_noted : (old new : Workspace) → new ≡ record old { windows = new.windows; queue = new.queue } →
+pub findings_noted : (old new : Workspace) → new ≡ record old { windows = new.windows; words = new.words } →
     LeavesAllButPlaces old new
 findings_noted old new e = grind arith

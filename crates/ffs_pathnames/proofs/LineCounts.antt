@@ -13,7 +13,7 @@ use Rattle.ffs_pathnames.specs.PassedNames.{entries_reported, roled_reported}
 
 -- ---- where there is a line
 pub knows_places : (v : Layout) (contents : Option (List ℕ)) (w : Workspace) (d : ℕ) (b : List ℕ) →
-    KnowsNoted v contents w d b → AreNoted v b w.queue.items → KnowsPlaces v contents w b
+    KnowsNoted v contents w d b → AreNoted v b w.words.items → KnowsPlaces v contents w b
 knows_places v contents w d b k noted = grind arith
 
 -- where nothing is read there are as few reads as one likes

@@ -62,7 +62,7 @@ passes vol d e flags stamps law = rw (← flags, ← stamps) law
 
 -- what is known of a workspace's lists stays where they stay
 pub knows_on : (v : Layout) (contents contents' : Option (List ℕ)) (old new : Workspace) (d : ℕ) (b : List ℕ) →
-    contents' ≡ contents → LeavesSurvey old new → KeepParts old.queue.items new.queue.items →
+    contents' ≡ contents → LeavesSurvey old new → KeepParts old.words.items new.words.items →
     KnowsNoted v contents old d b →
     KnowsNoted v contents' new d b
 knows_on v contents contents' old new d b e s keep k = grind (arith, claims_left, survey_left, noted_kept)

@@ -43,18 +43,18 @@ pub windows_next : (v : Layout) (d d' : Device) (w : Workspace) (s : KeptParent)
     → CanReadChunks v d' windows.blocks windows.current → CanMakePaths v d' (record w { windows = windows }) s
 windows_next v d d' w s windows r e others can = grind (arith, ready_next)
 
--- and where other stamps are in the queue, too
-pub ready_looked : (v : Layout) (d d' : Device) (w : Workspace) (windows : Windows) (queue : Vec ℕ Global) → CanRead v d w
+-- and where other stamps are in the words, too
+pub ready_looked : (v : Layout) (d d' : Device) (w : Workspace) (windows : Windows) (words : Vec ℕ Global) → CanRead v d w
     → d'.contents ≡ d.contents → windows ≡ record w.windows { blocks = windows.blocks; current = windows.current }
-    → CanReadChunks v d' windows.blocks windows.current → vec_len queue ≡ vec_len w.queue
-    → CanRead v d' (record w { windows = windows; queue = queue })
-ready_looked v d d' w windows queue r same others can long = grind arith
+    → CanReadChunks v d' windows.blocks windows.current → vec_len words ≡ vec_len w.words
+    → CanRead v d' (record w { windows = windows; words = words })
+ready_looked v d d' w windows words r same others can long = grind arith
 
 -- and where other names were passed
-pub ready_passed : (v : Layout) (d : Device) (w : Workspace) (flags : Vec Bool Global) (queue : Vec ℕ Global) → CanRead v d w
-    → vec_len flags ≡ vec_len w.flags → vec_len queue ≡ vec_len w.queue
-    → CanRead v d (record w { flags = flags; queue = queue })
-ready_passed v d w flags queue r marked long = grind arith
+pub ready_passed : (v : Layout) (d : Device) (w : Workspace) (flags : Vec Bool Global) (words : Vec ℕ Global) → CanRead v d w
+    → vec_len flags ≡ vec_len w.flags → vec_len words ≡ vec_len w.words
+    → CanRead v d (record w { flags = flags; words = words })
+ready_passed v d w flags words r marked long = grind arith
 
 -- the windows of chunks after reads into that of indirect blocks alone
 pub can_read_more : (v : Layout) (d d' : Device) (blocks blocks' : Blocks) (chunk : Window) →
@@ -70,7 +70,7 @@ can_read_in v d w r = grind arith
 -- what a call leaves after others that left the image as it was
 pub leaves_after : {T : Type 0} {v : Layout} {old mid new : WorkMoment} {s : KeptParent} {r : Result T RunFault} →
     mid.image ≡ old.image → LeavesSurvey old.workspace mid.workspace →
-    KeepParts old.workspace.queue.items mid.workspace.queue.items → DirectoryLeaves v mid new s r →
+    KeepParts old.workspace.words.items mid.workspace.words.items → DirectoryLeaves v mid new s r →
     DirectoryLeaves v old new s r
 leaves_after {new = new} {r = r} same survey places left = record {
   image = subst (λ d. ImageAfter d new.image r) same left.image;

@@ -31,8 +31,8 @@ unseen v contents w b n end g two le h k = absurd (omega arith)
 
 -- once places are noted, and no entry is due, all is right before the inode that was next
 pub noted_before : (v : Layout) (contents contents' : Option (List ℕ)) (old new : Workspace) (n : ℕ) (b : List ℕ) →
-    2 ≤ n → contents' ≡ contents → new ≡ record old { windows = new.windows; queue = new.queue } → IsFor v new →
-    HoldsSurvey v b new → ((x : ℕ) → is_due (slice_index new.queue.items x) ≡ false) →
+    2 ≤ n → contents' ≡ contents → new ≡ record old { windows = new.windows; words = new.words } → IsFor v new →
+    HoldsSurvey v b new → ((x : ℕ) → is_due (slice_index new.words.items x) ≡ false) →
     KnowsBefore v contents old n b → KnowsBefore v contents' new n b
 unfolding volume_of volume_with
 noted_before v contents contents' old new n b two same lists made survey none k = record {

@@ -53,8 +53,8 @@ words_more p q = record { places = λ x. q.places x ∙ p.places x; long = q.lon
 
 -- where the windows alone have changed
 pub windows_keep : (old new : Workspace) → new ≡ record old { windows = new.windows } →
-    KeepParts old.queue.items new.queue.items
-windows_keep old new e x = ap (λ (w : Workspace). part_in (slice_index w.queue.items x)) e
+    KeepParts old.words.items new.words.items
+windows_keep old new e x = ap (λ (w : Workspace). part_in (slice_index w.words.items x)) e
 
 -- a place is noted of the same directories
 pub noted_kept : (v : Layout) (b : List ℕ) (old new : List ℕ) → KeepParts old new → AreNoted v b old → AreNoted v b new
@@ -62,14 +62,14 @@ noted_kept v b old new keep noted x k reached = grind arith
 
 -- where the flags, the words and the windows alone have changed
 pub names_leave : (old new : Workspace) →
-    new ≡ record old { flags = new.flags; queue = new.queue; windows = new.windows } →
-    KeepParts old.queue.items new.queue.items → LeavesSurvey old new
+    new ≡ record old { flags = new.flags; words = new.words; windows = new.windows } →
+    KeepParts old.words.items new.words.items → LeavesSurvey old new
 names_leave old new e keep = grind arith
 
 -- the words and windows alone
-pub queue_leaves : (old new : Workspace) → new ≡ record old { queue = new.queue; windows = new.windows } →
-    KeepParts old.queue.items new.queue.items → LeavesAllButDue old new
-queue_leaves old new e keep = grind (arith, ap, names_leave)
+pub words_leave : (old new : Workspace) → new ≡ record old { words = new.words; windows = new.windows } →
+    KeepParts old.words.items new.words.items → LeavesAllButDue old new
+words_leave old new e keep = grind (arith, ap, names_leave)
 
 -- a word that is 0 isn't due
 pub none_due : (ws : List ℕ) (x : ℕ) → slice_index ws x ≡ 0 → is_due (slice_index ws x) ≡ false

@@ -31,4 +31,4 @@ pub record KnowsBefore (v : Layout) (contents : Option (List ℕ)) (w : Workspac
 -- and a place is noted of the parent entry of each directory that is reached and isn't the root
 pub record KnowsBeforeNoted (v : Layout) (contents : Option (List ℕ)) (w : Workspace) (dir : ℕ) (b : List ℕ) : Type 0 where
   pub before : KnowsBefore v contents w dir b
-  pub noted : AreNoted v b w.queue.items
+  pub noted : AreNoted v b w.words.items

@@ -14,7 +14,7 @@ use Rattle.ffs_workspace.specs.{declared.workspace.Workspace.Workspace, Leaves.L
 pub record LeavesAllButDue (old new : Workspace) : Type 0 where
   pub survey : LeavesSurvey old new
   pub flags : new.flags ≡ old.flags
-  pub places : KeepParts old.queue.items new.queue.items
+  pub places : KeepParts old.words.items new.words.items
 
 -- what the first look at a directory leaves: the image, but for a read that failed, and all of the
 -- workspace but its windows and which words are due

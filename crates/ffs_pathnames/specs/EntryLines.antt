@@ -20,7 +20,7 @@ pub record SaysEntryLines {T : Type 0} (v : Layout) (dir : ℕ) (lines : Volume 
   pub path : KeepsPath v old.at.image old.at.workspace dir old.kept new.kept
   pub settled : IsTrue old.kept.path_settled → IsTrue new.kept.path_settled
   pub once : ForBytes (KnowsNoted v old.at.image.contents old.at.workspace dir)
-      (λ b. AreNoted v b old.at.workspace.queue.items
+      (λ b. AreNoted v b old.at.workspace.words.items
       → ReadsPathOnce (length (lines (volume_of v b))) old.kept new.kept old.at.reads new.at.reads)
   pub counted : ReadsByLines v (KnowsNoted v old.at.image.contents old.at.workspace dir)
       (λ b. lines (volume_of v b)) old.at new.at

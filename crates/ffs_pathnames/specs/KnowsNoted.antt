@@ -16,7 +16,7 @@ pub record KnowsNoted (v : Layout) (contents : Option (List ℕ)) (w : Workspace
   pub gives_bytes : IsContents contents b
   pub block_check : HoldsBlockCheck v b w
   pub survey : HoldsSurvey v b w
-  pub noted : AreNoted v b w.queue.items
+  pub noted : AreNoted v b w.words.items
   pub dir : is_dir (volume_of v b) x ≡ true
 
 -- the path of a directory, where it is settled, is that of `dir`

@@ -41,7 +41,7 @@ pub record DirectoryLeaves {T : Type 0} (v : Layout) (old new : WorkMoment) (s :
     Type 0 where
   pub image : ImageAfter old.image new.image result
   pub survey : LeavesSurvey old.workspace new.workspace
-  pub places : KeepParts old.workspace.queue.items new.workspace.queue.items
+  pub places : KeepParts old.workspace.words.items new.workspace.words.items
   pub ready : ReadyAfter v new.image new.workspace s result
 
 -- the same of a call that changes nothing of the workspace but its windows; the window of the

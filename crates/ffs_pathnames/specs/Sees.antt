@@ -14,14 +14,14 @@ use Rattle.ffs_workspace.specs.declared.workspace.Workspace.{Workspace}
 
 -- what a workspace remembers of the names that were passed, during the pathname check
 abbrev pub passed_of : Workspace → PassedNames
-passed_of w = record { flags = w.flags.items; stamps = stamps_of w.parents.items w.queue.items }
+passed_of w = record { flags = w.flags.items; stamps = stamps_of w.parents.items w.words.items }
 
 -- the lists that say something of each inode are as long as one another
 pub record HasInodeLists (w : Workspace) : Type 0 where
   pub marked : vec_len w.marked ≡ vec_len w.kinds
   pub parents : vec_len w.parents ≡ vec_len w.kinds
   pub flags : vec_len w.flags ≡ vec_len w.kinds
-  pub queue : vec_len w.queue ≡ vec_len w.kinds
+  pub words : vec_len w.words ≡ vec_len w.kinds
   pub few : vec_len w.kinds < 2 ^ 31
 
 -- of each inode its kind, whether it is marked, and its parent

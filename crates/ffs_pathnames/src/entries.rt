@@ -164,7 +164,7 @@ fn report_entry<I: Image, W: Output>(
         &inodes,
         entry.dir,
         &mut workspace.flags,
-        &mut workspace.queue,
+        &mut workspace.words,
         entry.role,
         &entry.entry,
     );

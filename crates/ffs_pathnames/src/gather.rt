@@ -188,6 +188,6 @@ fn read_attr<I: Image>(
     let inode = workspace
         .windows
         .table
-        .inode_by_part(geometry, number, image)?;
+        .inode_by_piece(geometry, number, image)?;
     Ok(Attr::of(number, &inode))
 }

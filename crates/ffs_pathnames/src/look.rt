@@ -112,7 +112,7 @@ fn look_directory_unlimited<I: Image>(
         (KnowsNoted geometry.now.layout (I.device image.old).contents workspace.old dir)
         (λ b. I.reads image.new ≤ I.reads image.old + directory_cost geometry.now.layout b dir) }
 {
-    let inode = workspace.windows.table.inode_by_part(geometry, dir, image)?;
+    let inode = workspace.windows.table.inode_by_piece(geometry, dir, image)?;
     let directory = Directory { number: dir, inode };
     let chunks = look_chunks(geometry, image, workspace, &directory, start)?;
     Ok(FirstLook { inode, chunks })
@@ -184,8 +184,8 @@ fn look_chunks<I: Image>(
     };
     let flags = &workspace.flags;
     let windows = &mut workspace.windows;
-    // In phase 2 this list has the words of directories (`Workspace::queue`).
-    let words = &mut workspace.queue;
+    // In phase 2 this list has the words of directories (`Workspace::words`).
+    let words = &mut workspace.words;
     let order = geometry.layout.order;
     let mut chunks = Chunks::start(geometry, &directory.inode, cut);
     let mut bytes = [0u8; DIRBLKSIZ];

@@ -31,7 +31,7 @@ fn verdict_of(workspace: &Workspace, dir: u32, entry: &Entry<'_>) -> Verdict
         marked: &workspace.marked,
         parents: &workspace.parents,
     };
-    verdict_at_reading(&inodes, dir, &workspace.flags, &workspace.queue, entry)
+    verdict_at_reading(&inodes, dir, &workspace.flags, &workspace.words, entry)
 }
 
 /// Says the lines of a plain entry of a directory.

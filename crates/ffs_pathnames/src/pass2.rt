@@ -2,7 +2,7 @@
 ghost use Rattle.std.specs.Prelude.{◌≡◌, ◌+◌, ◌*◌, ◌∷◌, [], false, true, length, map, slice_index, vec_len, ◌&&◌, not, ℕ, IfOk, IsErr, OnErr};
 ghost use Rattle.ffs_report.specs.{Paid.Paid, PhaseOutcome.{HeadingFirst, ImageAfter, PhaseReports}};
 ghost use Rattle.ffs_image.specs.Known.{ForBytes};
-ghost use Rattle.ffs_report.specs.PhaseOutcome.{SaysBeforeFault};
+ghost use Rattle.ffs_report.specs.PhaseOutcome.{SaysThenReads};
 ghost use Rattle.ffs_report.specs.Progress.{progress};
 ghost use Rattle.ffs_volume.specs.Directories.{PathnameCheck.pathname_lines, Volumes.volume_of};
 ghost use Rattle.ffs_volume.specs.{Encodings.Kinds.is_dir_kind, Messages.Kinds.of_tree, Report.Reads.{line_reads, sweep_reads}};
@@ -90,7 +90,7 @@ pub fn phase2<I: Image, W: Output>(
     // counts as made in any case.
     ensures surveyed { workspace.new.surveyed ≡ false → (workspace.old.surveyed ≡ false) × ForBytes
         (WithBlockCheck geometry.now.layout (I.device image.old) workspace.old)
-        (λ bytes. IsErr result × SaysBeforeFault (messages.phase2 ∷ [])
+        (λ bytes. IsErr result × SaysThenReads (messages.phase2 ∷ [])
         (progress W.sink report.old) (progress W.sink report.new) result) }
 
     // Where a read or a write failed, and the survey is made, what is to be held is held still.
@@ -106,13 +106,13 @@ pub fn phase2<I: Image, W: Output>(
 }
 
 /// Begins the check of directories with no name passed: the flags of suspect inodes are cleared,
-/// and from now on such a flag says that a plain entry has named the inode. Each word of `queue` is
+/// and from now on such a flag says that a plain entry has named the inode. Each word of `words` is
 /// 0, as the survey left it: no parent entry's place is noted, and none is due. The survey's flags
 /// of other inodes stay, and say which directories are calm: these are left out. The windows hold
 /// nothing.
 fn clear_passed_and_windows(workspace: &mut Workspace)
     requires lists { HasInodeLists workspace.old }
-    requires unnoted { (x : ℕ) → slice_index workspace.old.queue.items x ≡ 0 }
+    requires unnoted { (x : ℕ) → slice_index workspace.old.words.items x ≡ 0 }
     ensures { IsNonePassed workspace.old workspace.new }
 {
     workspace.forget_windows();

@@ -49,7 +49,7 @@ mapped_single order offset bytes (k ∷ ks) =
 step_single : (r : ChunkSource) (passes : ℕ → ℕ → Bool) (step : Step) → AreSingleChunks (step_chunks r passes step)
 step_single r passes (Run start len (Some block)) = elim (passes start len) as (λ b. AreSingleChunks (if b then map
     (λ k. chunk_of r.order (block * r.bsize + 512 * k) (piece (start * r.fsize + 512 * k) 512 r.image))
-    (range_with_len 0 (min (len * r.fsize / 512) ((r.taken - block * r.bsize) / 512))) else [])) [
+    (range_with_len 0 (min (len * r.fsize / 512) ((r.read_bytes - block * r.bsize) / 512))) else [])) [
       | true ↦ mapped_single r.order _ _ _
       | false ↦ tt
     ]

@@ -33,7 +33,7 @@ pub record HoldsKeptParent (v : Layout) (contents : Option (List ℕ)) (w : Work
 -- the same places are noted
 abbrev pub SamePlaces : Workspace → Workspace → Type 0
 SamePlaces old new =
-    (x : ℕ) → part_in (slice_index new.queue.items x) ≡ part_in (slice_index old.queue.items x)
+    (x : ℕ) → part_in (slice_index new.words.items x) ≡ part_in (slice_index old.words.items x)
 
 -- paths can be made: the windows hold what the image gives, and what is kept of the parent is right
 pub record CanMakePaths (v : Layout) (d : Device) (w : Workspace) (s : KeptParent) : Type 0 where

@@ -50,7 +50,7 @@ pub record OnlyReadsFew {T : Type 0} (v : Layout) (most : ℕ) (old new : WorkMo
 
 -- the window of other directories holds the part that is noted as the place of the directory `dir`, if one is noted
 abbrev pub HoldsPlaceOf : Layout → Workspace → (dir : ℕ) → Type 0
-HoldsPlaceOf v w dir = (k : ℕ) → part_in (slice_index w.queue.items dir) ≡ suc k
+HoldsPlaceOf v w dir = (k : ℕ) → part_in (slice_index w.words.items dir) ≡ suc k
     → (w.windows.other.place ≡ part_size v * k) × (w.windows.other.length ≡ part_size v)
 
 -- the part with the place of `dir` is read once at most, and not where the window holds it; then it holds it
@@ -68,20 +68,20 @@ pub record ReadsPlace {T : Type 0} (v : Layout) (dir : ℕ) (old new : WorkMomen
   pub counted : ReadsFew 1 old.reads new.reads old.workspace new.workspace
   pub again : HoldsPlaceOf v old.workspace dir → new.reads ≤ old.reads
   pub held : ForContents old.image.contents
-      (λ b. IsNoted v b old.workspace.queue.items dir → OnOk result (HoldsPlaceOf v new.workspace dir))
+      (λ b. IsNoted v b old.workspace.words.items dir → OnOk result (HoldsPlaceOf v new.workspace dir))
 
 -- an image was asked for the part that is noted as the place of `dir`, once at most, and for nothing else
 abbrev pub AsksForPlace : {I : Type 0} → (was_read : I → ℕ → ℕ → I → Type 0) → Layout → Workspace → (dir : ℕ)
     → (old new : I) → Type 0
 AsksForPlace was_read v w dir old new = ReadsAtMostOnce was_read
-    (part_size v * (part_in (slice_index w.queue.items dir) - 1)) (part_size v) old new
+    (part_size v * (part_in (slice_index w.words.items dir) - 1)) (part_size v) old new
 
 -- a call for the name of the directory `dir` reads the part of its place alone, where that is noted
 pub record ReadsName {T : Type 0} (v : Layout) (dir : ℕ) (old new : WorkMoment) (result : Result T ImageFault) :
     Type 0 where
   pub reads : OnlyReads v old.image new.image old.workspace new.workspace result
   pub counted : ForContents old.image.contents
-      (λ b. IsNoted v b old.workspace.queue.items dir → ReadsPartOf v dir old new result)
+      (λ b. IsNoted v b old.workspace.words.items dir → ReadsPartOf v dir old new result)
 
 -- the image gives these bytes, the workspace holds what the block check and the survey leave, and
 -- it notes the place of each directory that is reached
@@ -89,7 +89,7 @@ pub record KnowsPlaces (v : Layout) (contents : Option (List ℕ)) (w : Workspac
   pub gives_bytes : IsContents contents b
   pub block_check : HoldsBlockCheck v b w
   pub survey : HoldsSurvey v b w
-  pub noted : AreNoted v b w.queue.items
+  pub noted : AreNoted v b w.words.items
 
 -- so many reads were made at most, where each place is noted
 abbrev pub ReadsAtMost : Layout → (most : ℕ) → (old new : WorkMoment) → Type 0

@@ -89,7 +89,7 @@ fn find_by_place<I: Image>(
     ensures asks { AsksForPlace I.was_read geometry.now.layout workspace.old dir image.old
         image.new }
 {
-    let Some(part) = noted_part(workspace.queue[dir as usize]) else {
+    let Some(part) = noted_part(workspace.words[dir as usize]) else {
         return Ok(false);
     };
     let size = part_size(geometry);
@@ -133,7 +133,7 @@ pub fn search_name<I: Image>(
     let inode = workspace
         .windows
         .table
-        .inode_by_part(geometry, parent, image)?;
+        .inode_by_piece(geometry, parent, image)?;
     let mut entries = Entries::start(geometry, &inode, cut);
     'entries: while let Some(entry) = entries.next(
         image,

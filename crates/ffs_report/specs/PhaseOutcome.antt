@@ -43,13 +43,13 @@ PhaseReports knows all old new (Err (Read fault)) = FirstMessages knows all (Sai
 PhaseReports knows all old new (Err (Out fault)) = FirstMessages knows all (Stopped old new)
 
 -- the outcome of saying these messages, by an answer that may be a read's fault: they were said before that
-abbrev pub SaysBeforeFault : {T : Type 0} → List Message → (old new : Progress) → Result T RunFault → Type 0
-SaysBeforeFault messages old new (Ok x) = Said old new messages
-SaysBeforeFault messages old new (Err (Read fault)) = Said old new messages
-SaysBeforeFault messages old new (Err (Out fault)) = Stopped old new messages
+abbrev pub SaysThenReads : {T : Type 0} → List Message → (old new : Progress) → Result T RunFault → Type 0
+SaysThenReads messages old new (Ok x) = Said old new messages
+SaysThenReads messages old new (Err (Read fault)) = Said old new messages
+SaysThenReads messages old new (Err (Out fault)) = Stopped old new messages
 
 -- of any image the heading is the first of the messages: no read failed before it was said
 pub record HeadingFirst {T : Type 0} (heading : Message) (old new : Progress) (result : Result T RunFault) : Type 0
   where
     pub more : List Message
-    pub says : SaysBeforeFault (heading ∷ more) old new result
+    pub says : SaysThenReads (heading ∷ more) old new result

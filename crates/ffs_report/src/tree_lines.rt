@@ -64,7 +64,7 @@ fn print_inode<W: Output>(
 /// Prints the same of an inode that is called a directory or a file.
 #[inline(always)]
 #[tactic(auto, using(crate::proofs::Sinks::printing))]
-fn print_kind<W: Output>(
+fn print_labelled<W: Output>(
     out: &mut W,
     head: &[u8],
     label: Label,
@@ -169,7 +169,7 @@ fn print_links<W: Output>(
     ensures { Prints (W.sink out.old) (W.sink out.new) (links_text label attr.now count right)
         result }
 {
-    print_kind(out, LINK_COUNT, label, attr, COUNT)?;
+    print_labelled(out, LINK_COUNT, label, attr, COUNT)?;
     print_signed(out, count as i64, SHOULD_BE)?;
     print_count(out, right, ADJUST)
 }
@@ -309,7 +309,7 @@ pub fn print_reference<W: Output>(out: &mut W, line: &ReferenceLine) -> Result<(
 {
     match line {
         ReferenceLine::UnrefDir { attr } => print_inode(out, UNREF_DIR, attr, RECONNECT),
-        ReferenceLine::DeadMarked { label, attr } => print_kind(
+        ReferenceLine::DeadMarked { label, attr } => print_labelled(
             out,
             DEAD_MARKED,
             *label,
@@ -317,14 +317,14 @@ pub fn print_reference<W: Output>(out: &mut W, line: &ReferenceLine) -> Result<(
             CLEAR,
         ),
         ReferenceLine::DeadZero { attr } => print_inode(out, DEAD_ZERO, attr, CLEAR),
-        ReferenceLine::Unref { label, attr } => print_kind(
+        ReferenceLine::Unref { label, attr } => print_labelled(
             out,
             UNREF,
             *label,
             attr,
             RECONNECT_OR_CLEAR,
         ),
-        ReferenceLine::UnrefZero { label, attr } => print_kind(out, UNREF, *label, attr, CLEAR),
+        ReferenceLine::UnrefZero { label, attr } => print_labelled(out, UNREF, *label, attr, CLEAR),
         ReferenceLine::LinkCount {
             label,
             attr,

@@ -78,7 +78,7 @@ fn noted(alloc: Global) -> Result<([Option<u32>; 4], bool), Fail> {
     let mut workspace = surveyed(alloc, &geometry)?;
     workspace.forget_windows();
     let read = note_places(&geometry, &mut image, &mut workspace);
-    let found = noted_in(&workspace.queue);
+    let found = noted_in(&workspace.words);
     drop(workspace);
     read?;
     Ok(found)

@@ -7,13 +7,13 @@ use Rattle.ffs_volume.specs.declared.Step.{Step, TheVariants.Run}
 
 -- how many chunks a Run has
 run_length : (r : ChunkSource) (start len offset : ℕ) → length (run_chunks r start len offset)
-    ≡ min (len * r.fsize / 512) ((r.taken - offset) / 512)
+    ≡ min (len * r.fsize / 512) ((r.read_bytes - offset) / 512)
 run_length r start len offset = grind (arith, length-map, length-range_with_len)
 
 -- the chunks of steps in the order of their blocks
 pub chunks_few : (r : ChunkSource) (test : ℕ → ℕ → Bool) (frag low high : ℕ) (steps : List Step) →
     frag * r.fsize ≤ r.bsize → Within frag low high steps
-    → 512 * length (chunks_of r test steps) ≤ r.taken - low * r.bsize
+    → 512 * length (chunks_of r test steps) ≤ r.read_bytes - low * r.bsize
 chunks_few r test frag low high [] f w = omega arith
 chunks_few r test frag low high (Run start len None ∷ steps) f w = chunks_few r test frag low high steps f w.1
 chunks_few r test frag low high (Run start len (Some block) ∷ steps) f w =

@@ -7,7 +7,7 @@
 --   Walk::skip_gaps                     PassesGaps (`Skips`)
 --   Walk::pass_word, pass_direct        PassesNextWord (`HeldWords`), PassesDirect (`Directs`)
 --   Keeping::start, take                IsFreshKeeping, ReplaysRun (`Keepings`)
---   KeptRuns::start, next               AreRunsOf, GivesRun (`KeptRuns`)
+--   SeenRuns::start, next               AreRunsOf, GivesRun (`SeenRuns`)
 --   Window::fill, Blocks::fill          FillsWindow, FillsBlock (`Windows`)
 --   class_of, has_steps and their like  of the book
 --
@@ -16,7 +16,7 @@
 -- `Lengths` about what holds of each step, `Counts` about the indirect blocks that are still to be read. `Rests`, on
 -- all of these, has the steps that a walk has left. By it others pass over many steps at once: `Skips` over gaps,
 -- `HeldWords` over the words of a single indirect block that is held, `Directs` over direct addresses.
--- `KeptRuns` has the Runs alone, each with how many of its offers are kept, until the inode is cut.
+-- `SeenRuns` has the Runs alone, each with how many of its offers are kept, until the inode is cut.
 pub mod Windows
 pub mod Keepings
 pub mod Frames
@@ -27,4 +27,4 @@ pub mod Rests
 pub mod Skips
 pub mod HeldWords
 pub mod Directs
-pub mod KeptRuns
+pub mod SeenRuns

@@ -5,7 +5,7 @@
 //! file). It reads each indirect block in range once, into the part of the buffer of `Blocks` that
 //! is for its level (0 for one with addresses of data: the level of the addresses in it, not that
 //! of its own address). `Keeping` says, step after step, which steps an inode keeps, by its cut and
-//! by its bad Runs so far; `KeptRuns` gives its Runs alone, each with how many of its offers are
+//! by its bad Runs so far; `SeenRuns` gives its Runs alone, each with how many of its offers are
 //! kept. A `Window` keeps a piece of an image between reads.
 //!
 //! `class_of` gives the class of an inode, and `has_steps` says which classes have steps at all. An
@@ -24,7 +24,7 @@ mod blocks;
 mod class;
 mod frame;
 mod keeping;
-mod kept_runs;
+mod seen_runs;
 mod pieces;
 mod walk;
 mod window;
@@ -33,7 +33,7 @@ mod words;
 pub use blocks::Blocks;
 pub use class::{class_of, has_steps, is_device, is_short_symlink};
 pub use keeping::Keeping;
-pub use kept_runs::{KeptRun, KeptRuns};
+pub use seen_runs::{SeenRun, SeenRuns};
 pub use walk::Walk;
 pub use window::Window;
 pub use words::any_set;

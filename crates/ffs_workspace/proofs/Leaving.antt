@@ -20,9 +20,9 @@ pub block_check_more : (a b c : Workspace) → LeavesBlockCheck a b → LeavesBl
 block_check_more a b c s t = grind arith
 
 -- where only the windows and a list that the survey makes have changed
-pub queue_leaves : (old new : Workspace) → new ≡ record old { windows = new.windows; queue = new.queue } →
+pub words_leave : (old new : Workspace) → new ≡ record old { windows = new.windows; words = new.words } →
     LeavesBlockCheck old new
-queue_leaves old new e = grind arith
+words_leave old new e = grind arith
 
 -- where only the windows have changed
 pub windows_leave : (old new : Workspace) → new ≡ record old { windows = new.windows } → LeavesSurvey old new

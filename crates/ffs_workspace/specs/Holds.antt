@@ -58,11 +58,11 @@ pub record HoldsTree (v : Layout) (image : List ℕ) (w : Workspace) : Type 0 wh
   pub reached : (x : ℕ) → bool_at w.reached.items x ≡ reached (graph_of (volume_of v image)) x
   pub parents : (x : ℕ) → slice_index w.parents.items x ≡ unwrap_or (parent (graph_of (volume_of v image)) x) 0
 
--- the tree that the survey found, and each place that was noted since in `queue` is that of a parent
+-- the tree that the survey found, and each place that was noted since in `words` is that of a parent
 -- entry. How often inodes are referred to is apart (`HoldsReferences`): phase 3 doesn't ask it
 pub record HoldsSurvey (v : Layout) (image : List ℕ) (w : Workspace) : Type 0 where
   pub tree : HoldsTree v image w
-  pub places : AreParts v image w.queue.items
+  pub places : AreParts v image w.words.items
 
 -- before the survey each count of references is where it starts; what the survey has found stays,
 -- so that a second one needn't count again

@@ -28,4 +28,4 @@ pub record LeavesAllButPlaces (old new : Workspace) : Type 0 where
 -- and each place that is noted is right where each one was
 pub record LeavesSurvey (old new : Workspace) : Type 0 where
   pub findings : LeavesAllButPlaces old new
-  pub places : (v : Layout) (b : List ℕ) → AreParts v b old.queue.items → AreParts v b new.queue.items
+  pub places : (v : Layout) (b : List ℕ) → AreParts v b old.words.items → AreParts v b new.words.items

@@ -16,7 +16,7 @@ pub record IsFor (v : Layout) (w : Workspace) : Type 0 where
   pub references : vec_len w.references ≡ inodes_of v
   pub notes : vec_len w.notes ≡ inodes_of v
   pub parents : vec_len w.parents ≡ inodes_of v
-  pub queue : vec_len w.queue ≡ inodes_of v
+  pub words : vec_len w.words ≡ inodes_of v
   pub table : vec_len w.windows.table.window.buffer ≡ v.bsize
   pub blocks : vec_len w.windows.blocks.buffer ≡ 3 * v.bsize
   pub current : vec_len w.windows.current.buffer ≡ v.bsize

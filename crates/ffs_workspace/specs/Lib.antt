@@ -8,7 +8,7 @@
 -- 2).
 --
 -- What calls need and leave: `Ready` has IsReady, which each phase needs and leaves, and CanRead, which calls within
--- a phase need and `forget_windows` makes of it: that the windows hold what this image gives. KeepsWindows says that
+-- a phase need and `forget_windows` makes of it: that the windows hold what this image gives. LeavesAllButWindows says that
 -- only the windows have changed, and that CanRead holds. IsNew is of a workspace as it is made (`Workspace::new`,
 -- `Workspace::in_memory`). `Leaves` says what the phases after the block check, and after the survey, leave of it as
 -- it was. `Found` says of HoldsPhase1 and its like that the image gives the bytes, too: WithFresh, WithPhase1,

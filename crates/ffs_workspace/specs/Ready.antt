@@ -20,7 +20,7 @@ pub record CanRead (v : Layout) (d : Device) (w : Workspace) : Type 0 where
   pub windows : HoldWindows v d.contents w
 
 -- only its windows have changed, and they hold what the image gives now
-pub record KeepsWindows (v : Layout) (d : Device) (old new : Workspace) : Type 0 where
+pub record LeavesAllButWindows (v : Layout) (d : Device) (old new : Workspace) : Type 0 where
   pub held : new ≡ record old { windows = new.windows }
   pub can_read : CanRead v d new
 
@@ -31,7 +31,7 @@ pub record IsUnsurveyed (v : Layout) (w : Workspace) : Type 0 where
   pub reached : w.reached.items ≡ replicate (inodes_of v) false
   pub flags : w.flags.items ≡ replicate (inodes_of v) false
   pub parents : w.parents.items ≡ replicate (inodes_of v) 0
-  pub queue : w.queue.items ≡ replicate (inodes_of v) 0
+  pub words : w.words.items ≡ replicate (inodes_of v) 0
 
 -- no Run is counted yet, and nothing of a current inode
 pub record IsUncounted (w : Workspace) : Type 0 where

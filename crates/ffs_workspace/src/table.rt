@@ -16,7 +16,7 @@ use ffs_walk::Window;
 const SECTOR_INODES: u32 = 4;
 
 /// How many inodes eight sectors have. No block has fewer.
-const PART_INODES: u32 = 32;
+const PIECE_INODES: u32 = 32;
 
 /// Where the piece of the inode table is that has an inode, in bytes from the start of the image. A
 /// piece has `count` inodes.
@@ -164,7 +164,7 @@ impl Table {
         ensures divides { DividesBlocks result }
     {
         if self.follows(number) {
-            PART_INODES
+            PIECE_INODES
         } else {
             SECTOR_INODES
         }
@@ -178,7 +178,7 @@ impl Table {
     /// A read of the image that failed.
     #[inline(always)]
     #[tactic(auto, unfolding(ffs_image::specs::Reads::ReadsAtMostOnce, crate::specs::Tables::AsksForPiece, crate::specs::Tables::TakesPiece, crate::specs::Tables::FailsInPiece))]
-    pub fn inode_by_part<I: Image>(
+    pub fn inode_by_piece<I: Image>(
         &mut self,
         geometry: &Geometry,
         number: u32,

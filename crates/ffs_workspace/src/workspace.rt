@@ -83,7 +83,7 @@ pub struct Workspace {
     /// ```
     ///
     /// The survey leaves all of them at 0; after phase 3 they note no place.
-    pub queue: FilledList<u32>,
+    pub words: FilledList<u32>,
     /// How many Runs phase 1 has looked at. It is counted for its bound, which is proved: nothing
     /// is decided by it.
     pub runs_seen: u64,
@@ -153,7 +153,7 @@ impl Workspace {
         let WordLists {
             notes,
             parents,
-            queue,
+            words,
         } = word_lists(memory, inodes)?;
         let windows = Windows::in_memory(memory, geometry)?;
         Ok(Workspace {
@@ -169,7 +169,7 @@ impl Workspace {
             surveyed: false,
             notes,
             parents,
-            queue,
+            words,
             runs_seen: 0,
             runs_again: 0,
             bad: 0,
@@ -205,7 +205,7 @@ impl Workspace {
             + self.named.len()
             + self.reached.len()
             + self.flags.len();
-        let words = self.notes.len() + self.parents.len() + self.queue.len();
+        let words = self.notes.len() + self.parents.len() + self.words.len();
         let lists = bytes as u64 + 4 * words as u64 + 8 * self.references.len() as u64;
         let buffers = self.windows.table.window.buffer.len()
             + self.windows.blocks.buffer.len()
@@ -303,21 +303,21 @@ fn flag_lists<M: Memory>(memory: &mut M, n: usize) -> Result<FlagLists, AllocErr
 struct WordLists {
     notes: FilledList<u32>,
     parents: FilledList<u32>,
-    queue: FilledList<u32>,
+    words: FilledList<u32>,
 }
 
 fn word_lists<M: Memory>(memory: &mut M, n: usize) -> Result<WordLists, AllocError>
     ensures made { MakesInMemory (M.account memory.old) (M.account memory.new) (12 * n) result
         (λ lists. IsFilled n 0 lists.notes × IsFilled n 0 lists.parents
-        × IsFilled n 0 lists.queue) }
+        × IsFilled n 0 lists.words) }
     ensures requests { M.requests memory.new ≤ M.requests memory.old + 3 }
 {
     let notes = memory.numbers(n)?;
     let parents = memory.numbers(n)?;
-    let queue = memory.numbers(n)?;
+    let words = memory.numbers(n)?;
     Ok(WordLists {
         notes,
         parents,
-        queue,
+        words,
     })
 }

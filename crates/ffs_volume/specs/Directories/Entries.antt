@@ -112,7 +112,7 @@ pub record ChunkSource : Type 0 where
 abbrev pub run_chunks : (r : ChunkSource) (start len offset : ℕ) → List Chunk
 run_chunks r start len offset =
     map (λ k. chunk_of r.order (offset + DIRBLKSIZ * k) (piece (start * r.fsize + DIRBLKSIZ * k) DIRBLKSIZ r.image))
-    (range_with_len 0 (min (len * r.fsize / DIRBLKSIZ) ((r.taken - offset) / DIRBLKSIZ)))
+    (range_with_len 0 (min (len * r.fsize / DIRBLKSIZ) ((r.read_bytes - offset) / DIRBLKSIZ)))
 
 -- the chunks of a step: those of a Run of data that passes a test. In a check the test is
 -- `is_run_in_range`. It is a parameter, so that these definitions need no layout

@@ -42,7 +42,7 @@ chunk_source_of v image d = record {
   image = image;
   bsize = v.bsize;
   fsize = v.fsize;
-  taken = bytes_read (inode_of v image d).size;
+  read_bytes = bytes_read (inode_of v image d).size;
 }
 
 -- the volume where each inode has these steps, and these inodes are marked

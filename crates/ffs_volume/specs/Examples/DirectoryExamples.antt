@@ -49,12 +49,12 @@ last_entry x kind name = record { number = x; length = 500; kind = kind; name = 
 
 -- a directory of two chunks at fragment 2, of which `taken` bytes are read
 unfoldable pub two_chunks : ℕ → ChunkSource
-two_chunks taken = record {
+two_chunks read_bytes = record {
   order = Little;
   image = zero_bytes 1024 ++ (root_chunk Little ++ root_chunk Little);
   bsize = 4096;
   fsize = 512;
-  taken = taken;
+  read_bytes = read_bytes;
 }
 
 -- entries, chunks and roles

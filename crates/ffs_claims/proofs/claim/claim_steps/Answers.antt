@@ -127,7 +127,7 @@ returns-in_err-next g c =
       most = λ bytes t. omega (
         arith,
         ap (λ s. s.runs) (inv.claims bytes t),
-        steps_rise c.args.geometry.now.layout (claims_of c.loop-next.workspace) (steps_left bytes c.loop-next.sweep.walk),
+        steps_rise c.args.geometry.now.layout (claims_of c.loop-next.workspace) (steps_left bytes c.loop-next.scan.walk),
       );
     })
 
@@ -152,7 +152,7 @@ returns-in_err-seen g c =
     let few = seen_bound c.args.workspace.now read.claim.ready.ready.made inv.open_still read.claim_bound in
     let paid = rw c.in-Some.is at (c.in_ok-next.ensures.counted inv.held).paid in
     rw (p.1, p.2) (record {
-      text = of_stops _ _ _ _ _ _ _ _ inv.said (lines_on v _ s _ c.loop-next.sweep.walk c.next.new.self
+      text = of_stops _ _ _ _ _ _ _ _ inv.said (lines_on v _ s _ c.loop-next.scan.walk c.next.new.self
           c.in-Some.next next refl) c.in_err-seen.ensures.claims.said;
       claims = tt;
       image = c.in_ok-next.ensures.leaves.read ∙ inv.device;
@@ -164,7 +164,7 @@ returns-in_err-seen g c =
         arith,
         paid,
         inv.indirect bytes t,
-        indirect_on v s c.loop-next.sweep.walk c.next.new.self c.in-Some.next inv.open_still next refl bytes t,
+        indirect_on v s c.loop-next.scan.walk c.next.new.self c.in-Some.next inv.open_still next refl bytes t,
       );
       most = λ bytes t. omega (
         arith,
@@ -190,7 +190,7 @@ loop-next-preserved-then-matches g c =
     ] in
     let rest = λ (bytes : List ℕ). steps_left bytes c.skip_gaps.new.self in
     let gaps : ForContents (g.I.Image.device c.args.image.now).contents
-    (λ bytes. steps_left bytes c.loop-next.sweep.walk ≡ Gap ∷ replicate c.skip_gaps.result Gap ++ rest bytes) =
+    (λ bytes. steps_left bytes c.loop-next.scan.walk ≡ Gap ∷ replicate c.skip_gaps.result Gap ++ rest bytes) =
     λ bytes t. (rw (inv.device, c.in-Some.is, is_gap) at c.in_ok-next.ensures.step.steps) bytes t
     ∙ ap (λ xs. Gap ∷ xs) (c.skip_gaps.ensures.steps (g.I.Image.device c.next.new.image).contents
     (rw same read.claim.ready.windows.blocks) bytes (ap (λ d. d.contents) image ∙ t)) in
@@ -205,7 +205,7 @@ loop-next-preserved-then-matches g c =
           omega (arith, paid, inv.counted, c.skip_gaps.ensures.counted.unread);
       indirect = λ bytes t.
           let paid = rw (c.in-Some.is, is_gap) at reads.paid in
-          let unseen : indirect_in_steps v s (steps_left bytes c.loop-next.sweep.walk)
+          let unseen : indirect_in_steps v s (steps_left bytes c.loop-next.scan.walk)
           ≡ indirect_in_steps v s (rest bytes) = ap (indirect_in_steps v s) (gaps bytes t)
           ∙ gaps_unseen v s (suc c.skip_gaps.result) (rest bytes) in
           omega (arith, paid, inv.indirect bytes t, unseen, c.skip_gaps.ensures.counted.unread);
@@ -261,13 +261,13 @@ loop-next-preserved g c =
         arith,
         paid,
         inv.indirect bytes t,
-        indirect_on v s c.loop-next.sweep.walk c.next.new.self c.in-Some.next inv.open_still next now bytes t,
+        indirect_on v s c.loop-next.scan.walk c.next.new.self c.in-Some.next inv.open_still next now bytes t,
         words.means.indirect contents claimed.windows.blocks bytes (gives ∙ t),
         words.counted.unread,
       );
-      claims = claims_on v s c.loop-next.sweep.walk c.next.new.self _ c.in-Some.next next now inv.claims
+      claims = claims_on v s c.loop-next.scan.walk c.next.new.self _ c.in-Some.next next now inv.claims
           (λ bytes t. sym (words.means.claims contents claimed.windows.blocks bytes (gives ∙ t)));
-      said = steps_said v n s (claims_of c.claim_step.new.workspace) c.loop-next.sweep.walk c.next.new.self _ c.in-Some.next
+      said = steps_said v n s (claims_of c.claim_step.new.workspace) c.loop-next.scan.walk c.next.new.self _ c.in-Some.next
           inv.said next now (λ bytes t. sym (words.means.lines contents claimed.windows.blocks bytes (gives ∙ t) n))
           c.in_ok-seen.ensures.claims.said;
     }
@@ -286,10 +286,10 @@ returns-then-not-seen g c =
     let next = rw (inv.device, c.in-Some.is) at c.in_ok-next.ensures.step.steps in
     let paid = rw c.in-Some.is at (c.in_ok-next.ensures.counted inv.held).paid in
     record {
-      text = steps_said v n s s' c.loop-next.sweep.walk c.next.new.self (λ bytes. []) c.in-Some.next inv.said next
+      text = steps_said v n s s' c.loop-next.scan.walk c.next.new.self (λ bytes. []) c.in-Some.next inv.said next
           now.claims (λ bytes t. (cut_over v n s' (steps_left bytes c.next.new.self) cut).1)
           c.in_ok-seen.ensures.claims.said;
-      claims = claims_on v s c.loop-next.sweep.walk c.next.new.self (λ bytes. s') c.in-Some.next next now.claims
+      claims = claims_on v s c.loop-next.scan.walk c.next.new.self (λ bytes. s') c.in-Some.next next now.claims
           inv.claims (λ bytes t. (cut_over v n s' (steps_left bytes c.next.new.self) cut).0);
       image = c.in_ok-next.ensures.leaves.read ∙ inv.device;
       left = claiming_on c.claim_step.ensures.left
@@ -303,7 +303,7 @@ returns-then-not-seen g c =
         arith,
         paid,
         inv.indirect bytes t,
-        indirect_on v s c.loop-next.sweep.walk c.next.new.self c.in-Some.next inv.open_still next now.claims bytes t,
+        indirect_on v s c.loop-next.scan.walk c.next.new.self c.in-Some.next inv.open_still next now.claims bytes t,
       );
       most = λ bytes t. omega (
         arith,
@@ -336,6 +336,6 @@ returns-in_default g c =
       most = λ bytes t. omega (
         arith,
         ap (λ s. s.runs) (inv.claims bytes t),
-        steps_rise v s (steps_left bytes c.loop-next.sweep.walk),
+        steps_rise v s (steps_left bytes c.loop-next.scan.walk),
       );
     }

@@ -12,22 +12,22 @@ abbrev pub invariant-loop-next : goal.invariant-loop-next
 invariant-loop-next g l = let v = l.geometry.layout in let n = l.owner.number in let i = l.owner.inode.now in
     let knows = IsContents (g.I.Image.device l.fn.image).contents in record {
       device : g.I.Image.device l.image ≡ g.I.Image.device l.fn.image;
-      left : Claiming v (g.I.Image.device l.image) l.fn.workspace l.workspace l.sweep.area;
+      left : Claiming v (g.I.Image.device l.image) l.fn.workspace l.workspace l.scan.area;
       open_still : is_open (claims_of l.workspace) ≡ true;
-      geometry : l.sweep.walk.geometry ≡ l.geometry;
-      held : AreHeld l.workspace.windows.blocks l.sweep.walk;
-      counted : g.I.Image.reads l.image + unread l.sweep.walk + l.fn.workspace.runs_seen
+      geometry : l.scan.walk.geometry ≡ l.geometry;
+      held : AreHeld l.workspace.windows.blocks l.scan.walk;
+      counted : g.I.Image.reads l.image + unread l.scan.walk + l.fn.workspace.runs_seen
           ≤ g.I.Image.reads l.fn.image + l.workspace.runs_seen;
-      indirect : ForBytes knows (λ bytes. g.I.Image.reads l.image + unread l.sweep.walk
-          + indirect_in_steps v (claims_of l.workspace) (steps_left bytes l.sweep.walk)
+      indirect : ForBytes knows (λ bytes. g.I.Image.reads l.image + unread l.scan.walk
+          + indirect_in_steps v (claims_of l.workspace) (steps_left bytes l.scan.walk)
           ≤ g.I.Image.reads l.fn.image + indirect_in_steps v (claims_of l.fn.workspace) (steps_of v i bytes));
-      claims : ForBytes knows (λ bytes. after_steps v (claims_of l.workspace) (steps_left bytes l.sweep.walk)
+      claims : ForBytes knows (λ bytes. after_steps v (claims_of l.workspace) (steps_left bytes l.scan.walk)
           ≡ after_steps v (claims_of l.fn.workspace) (steps_of v i bytes));
       said : SaidOf knows
-          (λ bytes. of_lines (lines_of_steps v n (claims_of l.workspace) (steps_left bytes l.sweep.walk)))
+          (λ bytes. of_lines (lines_of_steps v n (claims_of l.workspace) (steps_left bytes l.scan.walk)))
           (λ bytes. of_lines (lines_of_steps v n (claims_of l.fn.workspace) (steps_of v i bytes)))
           (progress g.W.Output.sink l.fn.report) (progress g.W.Output.sink l.report);
     }
 
 abbrev pub decreases-loop-next : goal.decreases-loop-next
-decreases-loop-next g l = most_steps_left l.sweep.walk
+decreases-loop-next g l = most_steps_left l.scan.walk

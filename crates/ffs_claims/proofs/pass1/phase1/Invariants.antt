@@ -13,8 +13,8 @@ use Rattle.ffs_claims.proofs.pass1.phase1.Given as goal
 abbrev pub invariant-loop-number : goal.invariant-loop-number
 invariant-loop-number g l = let v = l.geometry.layout in
     let knows = WithFresh v (g.I.Image.device l.fn.image) l.fn.workspace in record {
-      ready : CanClaim v (g.I.Image.device l.image) l.workspace l.sweep.area;
-      walk : l.sweep.walk.geometry ≡ l.geometry;
+      ready : CanClaim v (g.I.Image.device l.image) l.workspace l.scan.area;
+      walk : l.scan.walk.geometry ≡ l.geometry;
       device : g.I.Image.device l.image ≡ g.I.Image.device l.fn.image;
       low : 2 ≤ l.number;
       high : 2 < l.number → l.number ≤ inodes_of v;

@@ -23,9 +23,9 @@ fits : (g : given.Over) (c : After-is_spent g) →
     (λ bytes. c.is_spent.result ≡ false)
 fits g c bytes k =
     let v = c.args.geometry.now.layout in
-    let reads = c.phase1b_unlimited-scanned.ensures.reads in
+    let reads = c.phase1b_unlimited-rescanned.ensures.reads in
     let few = runs_bounded v bytes c.args.geometry.now.sound in
-    let runs : c.phase1b_unlimited-scanned.new.workspace.runs_again ≤ run_count v bytes =
+    let runs : c.phase1b_unlimited-rescanned.new.workspace.runs_again ≤ run_count v bytes =
     reads.runs bytes (noted g c bytes k) in
     grind arith
 
@@ -57,9 +57,9 @@ returns-then-is_spent-clause-faults g c = grind arith
 
 pub returns-then-is_spent-clause-again : goal.returns-then-is_spent-clause-again
 returns-then-is_spent-clause-again g c =
-    let faults = c.phase1b_unlimited-scanned.ensures.faults in
-    said_of_spent _ _ _ _ _ c.phase1b_unlimited-scanned.result faults (λ e. grind arith) (λ bytes k. grind (arith, fits))
-    c.phase1b_unlimited-scanned.ensures.again
+    let faults = c.phase1b_unlimited-rescanned.ensures.faults in
+    said_of_spent _ _ _ _ _ c.phase1b_unlimited-rescanned.result faults (λ e. grind arith) (λ bytes k. grind (arith, fits))
+    c.phase1b_unlimited-rescanned.ensures.again
 
 pub returns-then-is_spent-clause-text : goal.returns-then-is_spent-clause-text
 returns-then-is_spent-clause-text g c =
@@ -72,12 +72,12 @@ returns-then-is_spent-clause-leaves g c = λ bytes k.
     let fit = fits g (goal.at.returns-then-is_spent-clause-leaves g c).After-is_spent bytes (k.0, k.1.notes) in grind arith
 
 pub returns-then-is_spent-clause-heading : goal.returns-then-is_spent-clause-heading
-returns-then-is_spent-clause-heading g c = heading_spent c.phase1b_unlimited-scanned.result
-    c.phase1b_unlimited-scanned.ensures.faults (λ e. grind arith) c.phase1b_unlimited-scanned.ensures.heading
+returns-then-is_spent-clause-heading g c = heading_spent c.phase1b_unlimited-rescanned.result
+    c.phase1b_unlimited-rescanned.ensures.faults (λ e. grind arith) c.phase1b_unlimited-rescanned.ensures.heading
 
 pub returns-then-is_spent-clause-clears : goal.returns-then-is_spent-clause-clears
-returns-then-is_spent-clause-clears g c = clears_spent c.phase1b_unlimited-scanned.result
-    c.phase1b_unlimited-scanned.ensures.faults (λ e. grind arith) c.phase1b_unlimited-scanned.ensures.clears
+returns-then-is_spent-clause-clears g c = clears_spent c.phase1b_unlimited-rescanned.result
+    c.phase1b_unlimited-rescanned.ensures.faults (λ e. grind arith) c.phase1b_unlimited-rescanned.ensures.clears
 
 pub returns-then-is_spent-clause-offers : goal.returns-then-is_spent-clause-offers
 returns-then-is_spent-clause-offers g c = grind (arith, fits)
@@ -92,12 +92,12 @@ pub returns-clause-faults : goal.returns-clause-faults
 returns-clause-faults g c = grind arith
 
 pub returns-clause-again : goal.returns-clause-again
-returns-clause-again g c = reports_knowing (Unit {0}) _ _ _ _ _ c.phase1b_unlimited-scanned.result
-    (noted g (goal.at.returns-clause-again g c).After-is_spent) c.phase1b_unlimited-scanned.ensures.again
+returns-clause-again g c = reports_knowing (Unit {0}) _ _ _ _ _ c.phase1b_unlimited-rescanned.result
+    (noted g (goal.at.returns-clause-again g c).After-is_spent) c.phase1b_unlimited-rescanned.ensures.again
 
 pub returns-clause-text : goal.returns-clause-text
 returns-clause-text g c = text_noted c.args.geometry.now.layout (g.I.Image.device c.args.image.now)
-    c.args.workspace.now _ _ c.phase1b_unlimited-scanned.result (returns-clause-again g c)
+    c.args.workspace.now _ _ c.phase1b_unlimited-rescanned.result (returns-clause-again g c)
 
 pub returns-clause-leaves : goal.returns-clause-leaves
 returns-clause-leaves g c = grind arith
@@ -106,7 +106,7 @@ pub returns-clause-offers : goal.returns-clause-offers
 returns-clause-offers g c = grind arith
 
 pub returns-clause-clears : goal.returns-clause-clears
-returns-clause-clears g c = c.phase1b_unlimited-scanned.ensures.clears
+returns-clause-clears g c = c.phase1b_unlimited-rescanned.ensures.clears
 
 pub returns-clause-reads : goal.returns-clause-reads
 returns-clause-reads g c = grind arith

@@ -4,7 +4,7 @@ use Rattle.ffs_volume.specs.Blocks.BlockCheck.{first_offer_lines, set_count}
 use Rattle.ffs_report.proofs.Reporting.{of_begins, of_reads, of_same, of_says, of_stops}
 use Rattle.ffs_maps.specs.Bits.{bits_of}
 use Rattle.ffs_walk.proofs.{Counted.{top_held, top_unread}, ReplayedRuns.indirect_most}
-use Rattle.ffs_walk.specs.KeptRuns.{kept_runs_left}
+use Rattle.ffs_walk.specs.SeenRuns.{seen_runs_left}
 use Rattle.ffs_claims.proofs.{Duplicates.{none_first, none_left, some_left}, Frames.{can_walk, claims_none, ready_read}}
 use Rattle.ffs_claims.proofs.{Frames.ready_walked, Reportings.{lines_split, part_from, part_now, part_then}}
 use Rattle.ffs_claims.proofs.Clearing.{clears_from, clears_none, clears_read, clears_then}
@@ -113,7 +113,7 @@ returns-then-not-has_unreported_dups-clause-walks g c =
     record {
       text = of_same {rest' = λ bytes. of_lines []} (of_says
           {rest' = λ bytes. of_lines (first_offer_lines d' (offers_of_runs c.args.number
-          (kept_runs_left bytes c.next.new.self)))} inv.said
+          (seen_runs_left bytes c.next.new.self)))} inv.said
           (λ bytes t. lines_split _ d' _ _ _ (ap (offers_of_runs c.args.number) (next bytes t)) did.reported.duplicates)
           did.said) (λ bytes t. ap of_lines (none_first d' _ none));
       rewalked = λ bytes t. rewalk_over none

@@ -3,7 +3,7 @@ use Rattle.ffs_volume.specs.Blocks.BlockCheck.{first_offer_lines, set_count}
 use Rattle.ffs_report.specs.{PhaseOutcome.SaidOf, Progress.progress}
 use Rattle.ffs_image.specs.Known.{ForBytes, IsContents}
 use Rattle.ffs_maps.specs.Bits.{bits_of}
-use Rattle.ffs_walk.specs.{Counts.{AreHeld, unread}, KeptRuns.kept_runs_left, Rests.most_steps_left}
+use Rattle.ffs_walk.specs.{Counts.{AreHeld, unread}, SeenRuns.seen_runs_left, Rests.most_steps_left}
 use Rattle.ffs_claims.{proofs.Rewalks.{Rereads, Rewalking}, specs.Lines.of_lines}
 use Rattle.ffs_claims.specs.{Moments.claim_moment, Reporting.ClearsAsSaid}
 use Rattle.ffs_claims.specs.RescanRuns.{RunsPay, indirect_among, noted_runs, offers_of_runs}
@@ -24,10 +24,10 @@ invariant-loop-run g l =
       counted : RunsPay (g.I.Image.reads l.initial.image) (g.I.Image.reads l.image + unread l.runs.walk)
           begun.runs_again l.workspace.runs_again;
       indirect : ForBytes knows (λ bytes. g.I.Image.reads l.image + unread l.runs.walk
-          + indirect_among (kept_runs_left bytes l.runs) ≤ g.I.Image.reads l.initial.image + indirect_among (all bytes));
-      walk : ForBytes knows (λ bytes. Rewalking l.number (all bytes) (kept_runs_left bytes l.runs) begun l.workspace);
+          + indirect_among (seen_runs_left bytes l.runs) ≤ g.I.Image.reads l.initial.image + indirect_among (all bytes));
+      walk : ForBytes knows (λ bytes. Rewalking l.number (all bytes) (seen_runs_left bytes l.runs) begun l.workspace);
       said : SaidOf knows (λ bytes. of_lines (first_offer_lines (bits_of l.workspace.duplicates)
-          (offers_of_runs l.number (kept_runs_left bytes l.runs))))
+          (offers_of_runs l.number (seen_runs_left bytes l.runs))))
           (λ bytes. of_lines (first_offer_lines (bits_of begun.duplicates) (offers_of_runs l.number (all bytes))))
           (progress g.W.Output.sink l.initial.report) (progress g.W.Output.sink l.report);
       clears : ClearsAsSaid {T = Unit {0}} 0 (claim_moment g.W.Output begun l.initial.report)

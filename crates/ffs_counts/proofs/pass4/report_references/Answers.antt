@@ -5,7 +5,7 @@ use Rattle.ffs_volume.specs.Messages.Kinds.{TreeMessage, of_tree}
 use Rattle.ffs_report.proofs.Paying.{paid_none, paid_reads, paid_says, paid_stops}
 use Rattle.ffs_image.specs.Known.{ForBytes}
 use Rattle.ffs_report.proofs.Reporting.{reads_first, says_all, says_none, stops_all}
-use Rattle.ffs_workspace.{specs.{Found.WithFindings, Ready.KeepsWindows}, proofs.{Readiness.can_read_table, TablePlaces.fails_in_table}}
+use Rattle.ffs_workspace.{specs.{Found.WithFindings, Ready.LeavesAllButWindows}, proofs.{Readiness.can_read_table, TablePlaces.fails_in_table}}
 use Rattle.ffs_counts.{specs.References.lines_as, proofs.Holding.{inode_reference_lines_are, item_at, met_lines}}
 use Rattle.ffs_counts.proofs.Holding.{same_reported, some_lines, unmet_line, unmet_reported}
 use Rattle.ffs_counts.proofs.InodesBelow.{fails_in_block}
@@ -32,7 +32,7 @@ some : (g : given.Over) (c : After-line_for-line g) → 1 ≤ length (map of_tre
 some g c = grind (arith, item_at, one, unmet_reported, length-map)
 
 stays : (g : given.Over) (c : In_ok-inode g) →
-    KeepsWindows c.args.geometry.now.layout (g.I.Image.device c.inode.new.image) c.args.workspace.now
+    LeavesAllButWindows c.args.geometry.now.layout (g.I.Image.device c.inode.new.image) c.args.workspace.now
     (record c.args.workspace.now {
       windows = record c.args.workspace.now.windows { table = c.inode.new.self };
     })

@@ -5,7 +5,7 @@ use Rattle.ffs_volume.specs.{Messages.Kinds.phase5, Report.{Whole.phase5_message
 use Rattle.ffs_layout.specs.Super.{superblock_in}
 use Rattle.ffs_report.specs.{PhaseOutcome.{HeadingFirst, SaidOf}, Progress.progress}
 use Rattle.ffs_groups.specs.Inodes.{class_in}
-use Rattle.ffs_workspace.specs.{Found.WithBlockCheck, Ready.KeepsWindows}
+use Rattle.ffs_workspace.specs.{Found.WithBlockCheck, Ready.LeavesAllButWindows}
 use Rattle.ffs_counts.specs.{BeforeFault.{lines_below_group, messages_before_group}, Once.reported_after}
 use Rattle.ffs_counts.{specs.{Once.reported_of, Totals.{AreSumsOf, AreTotals}}, proofs.GroupText.{free_of, lines_after}}
 use Rattle.ffs_counts.{specs.Records.IsAtRecords, proofs.GroupReads.reads_below}
@@ -17,7 +17,7 @@ invariant-loop-group g l =
     let w = l.fn.workspace in
     record {
       device : g.I.Image.device l.image ≡ g.I.Image.device l.fn.image;
-      stays : KeepsWindows v (g.I.Image.device l.image) w l.workspace;
+      stays : LeavesAllButWindows v (g.I.Image.device l.image) w l.workspace;
       reads : g.I.Image.reads l.image ≤ g.I.Image.reads l.fn.image + reads_below l.group;
       records : (l.group % records_at_once ≡ 0 → ⊥) → IsAtRecords v l.workspace.windows.table.window l.group;
       up : AreSumsOf l.group l.totals;

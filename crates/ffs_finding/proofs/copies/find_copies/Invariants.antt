@@ -3,7 +3,7 @@ use Rattle.ffs_image.specs.Device.{ForContents}
 use Rattle.ffs_image.specs.Known.{IsContents}
 use Rattle.ffs_walk.specs.Windows.{WindowHolds}
 use Rattle.ffs_volume.specs.Find.Copies.{copies_lines}
-use Rattle.ffs_finding.specs.{Outcome.PrintedTo, Copies.{IsWindowOf, window_bytes}}
+use Rattle.ffs_finding.specs.{Outcome.PrintedOf, Copies.{IsWindowOf, window_bytes}}
 use Rattle.ffs_finding.proofs.CopyLaws.{lines_from, magics}
 use Rattle.ffs_finding.proofs.copies.find_copies.Given as goal
 
@@ -20,6 +20,6 @@ invariant-loop-sector g l =
       known : ForContents d.contents (λ b. g.I.Image.reads l.image
           ≤ reads + (l.sector + 129) / 128 + magics b (l.sector - 1));
       any : g.I.Image.reads l.image ≤ reads + 2 * (l.sector - 1);
-      printed : PrintedTo (IsContents d.contents) (λ b. lines_from b l.sector) copies_lines
+      printed : PrintedOf (IsContents d.contents) (λ b. lines_from b l.sector) copies_lines
           (g.W.Output.sink l.fn.out) (g.W.Output.sink l.out);
     }

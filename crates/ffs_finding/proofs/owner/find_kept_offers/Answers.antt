@@ -2,7 +2,7 @@ use Rattle.std.proofs.Common.{◌∙◌, ◌+◌, [], arith, refl, ap, length}
 use Rattle.std.proofs.lemmas.Result.{err_from_is_err_and}
 use Rattle.ffs_volume.specs.{Blocks.Steps.steps_of, Encodings.Replay.fresh_replay}
 use Rattle.ffs_report.proofs.Sinks.{took_nil}
-use Rattle.ffs_walk.{proofs.Counted.{top_held, top_unread}, specs.KeptRuns.{indirect_in_run, kept_runs_left}}
+use Rattle.ffs_walk.{proofs.Counted.{top_held, top_unread}, specs.SeenRuns.{indirect_in_run, seen_runs_left}}
 use Rattle.ffs_walk.proofs.ReplayedRuns.{indirect_most, runs_counted}
 use Rattle.ffs_finding.{specs.Keepers.{lines_of_runs, lines_of_run}, proofs.Printing.{prints, reads_after, stops}}
 use Rattle.ffs_finding.proofs.{Replayed.{lines_next, lines_none, text_is}, Walking.{blocks_on, most_small}}
@@ -56,7 +56,7 @@ returns-in_err-print_run-clause-finds g c =
       found = record {
         image = c.in_ok-run.ensures.leaves.read ∙ inv.device;
         text = stops _ _ (λ b. lines_of_runs s.fragment s.number (c.loop-run.earlier + indirect_in_run run)
-            (kept_runs_left b c.next.new.self)) _ (lines_of_run s.fragment s.number c.loop-run.earlier run) _ _ _ inv.printed
+            (seen_runs_left b c.next.new.self)) _ (lines_of_run s.fragment s.number c.loop-run.earlier run) _ _ _ inv.printed
             (λ b k. lines_next s.fragment s.number c.loop-run.earlier _ run _ _ (next b k) refl)
             (rw (text_is s c.loop-run.earlier run) at c.in_err-print_run.ensures);
       };

@@ -53,7 +53,7 @@ loop-dir-preserved g c =
     let inv = c.loop-dir.invariant in
     let first = c.args.workspace.now in
     let here = c.loop-dir.workspace in
-    let old = here.queue.items in
+    let old = here.words.items in
     let dir = c.loop-dir.dir in
     let inside : dir < length old = grind (arith, common_steps) in
     let word : c.index-word.result.now ≡ slice_index old dir =
@@ -61,28 +61,28 @@ loop-dir-preserved g c =
     elim c.if-is_due.branch [
       | then-is_due+in_ok-note_directory w ↦
           let noted = w.in_ok-note_directory.ensures in
-          let mid : Workspace = record here { queue = w.set.new.self } in
+          let mid : Workspace = record here { words = w.set.new.self } in
           let new = w.note_directory.new.workspace in
-          let set : mid.queue.items ≡ slice_set old dir w.without_due.result = w.set.ensures.items in
-          let same : (x : ℕ) → part_in (slice_index mid.queue.items x) ≡ part_in (slice_index old x) =
+          let set : mid.words.items ≡ slice_set old dir w.without_due.result = w.set.ensures.items in
+          let same : (x : ℕ) → part_in (slice_index mid.words.items x) ≡ part_in (slice_index old x) =
           λ x. rw set (set_same part_in old dir w.without_due.result inside (w.without_due.ensures.part ∙ ap part_in word) x) in
-          let set_was_read : KeepsToRead (slice_set old dir w.without_due.result) new.queue.items =
+          let set_was_read : KeepsToRead (slice_set old dir w.without_due.result) new.words.items =
           rw set at noted.leaves.children.to_read in
           let unread : is_to_be_read (slice_index old dir) ≡ true =
           ap is_to_be_read (sym word) ∙ (sym c.is_due.ensures ∙ w.if-is_due.true) in
-          let other : (x : ℕ) → x ≢ dir → is_to_be_read (slice_index mid.queue.items x) ≡ is_to_be_read (slice_index old x) =
+          let other : (x : ℕ) → x ≢ dir → is_to_be_read (slice_index mid.words.items x) ≡ is_to_be_read (slice_index old x) =
           λ x o. rw set (set_other is_to_be_read old dir w.without_due.result x o) in
-          let lists : mid ≡ record first { windows = mid.windows; queue = mid.queue } =
-          ap (λ (x : Workspace). record x { queue = w.set.new.self }) inv.lists in
+          let lists : mid ≡ record first { windows = mid.windows; words = mid.words } =
+          ap (λ (x : Workspace). record x { words = w.set.new.self }) inv.lists in
           rw (w.image-is, w.workspace-is) (record {
             same = noted.leaves.read ∙ inv.same;
             lists = noted.leaves.lists
-                ∙ ap (λ (x : Workspace). record x { windows = new.windows; queue = new.queue }) inv.lists;
+                ∙ ap (λ (x : Workspace). record x { windows = new.windows; words = new.words }) inv.lists;
             ready = noted.leaves.ready;
             low = omega arith;
-            were_read = read_next old new.queue.items dir w.without_due.result inside w.without_due.ensures.due set_was_read
+            were_read = read_next old new.words.items dir w.without_due.result inside w.without_due.ensures.due set_was_read
                 inv.were_read;
-            only = only_fewer first.reached.items first.parents.items old new.queue.items dir w.without_due.result inside
+            only = only_fewer first.reached.items first.parents.items old new.words.items dir w.without_due.result inside
                 w.without_due.ensures.due set_was_read inv.only;
             reads = λ b k.
                 let is = parent_is_dir k.2 (inv.only dir unread) in
@@ -90,12 +90,12 @@ loop-dir-preserved g c =
                 let more = cost_take (has_child first.reached.items first.parents.items) (noted_directory_cost v b) dir (child_of (inv.only dir unread)) in
                 omega (arith, took.counted, more, inv.reads b k);
             places = λ b k.
-                let right = places_same v b old mid.queue.items same (inv.places b k) in
+                let right = places_same v b old mid.words.items same (inv.places b k) in
                 places_after (survey_noted lists k.2 right)
                 (λ is. (noted.notes b (ap (λ d. d.contents) inv.same ∙ k.0, claims_noted lists k.1) is).right)
                 noted.leaves.children right;
             noted = λ b k.
-                let right = places_same v b old mid.queue.items same (inv.places b k) in
+                let right = places_same v b old mid.words.items same (inv.places b k) in
                 coming_noted old (survey_noted lists k.2 right) same other
                 (λ is. (noted.notes b (ap (λ d. d.contents) inv.same ∙ k.0, claims_noted lists k.1) is).each)
                 noted.leaves.children (inv.noted b k);
@@ -122,7 +122,7 @@ returns-clause-places g c = λ b k.
     let inv = c.loop-dir.invariant in
     record {
       survey = survey_noted inv.lists k.2 (inv.places b k);
-      noted = coming_end c.args.geometry.now.layout b c.loop-dir.workspace.queue.items
+      noted = coming_end c.args.geometry.now.layout b c.loop-dir.workspace.words.items
           (λ x l. inv.were_read x (omega arith)) (inv.noted b k);
     }
 
@@ -135,22 +135,22 @@ returns-in_err-note_directory-clause-still g c = λ b k.
     let v = c.args.geometry.now.layout in
     let inv = c.loop-dir.invariant in
     let first = c.args.workspace.now in
-    let old = c.loop-dir.workspace.queue.items in
+    let old = c.loop-dir.workspace.words.items in
     let dir = c.loop-dir.dir in
     let inside : dir < length old = grind (arith, common_steps) in
     let word : c.index-word.result.now ≡ slice_index old dir =
     c.index-word.ensures ∙ get_or_default_zero old dir c.index-word.result.now inside in
-    let mid : Workspace = record c.loop-dir.workspace { queue = c.set.new.self } in
+    let mid : Workspace = record c.loop-dir.workspace { words = c.set.new.self } in
     let new = c.note_directory.new.workspace in
-    let lists : mid ≡ record first { windows = mid.windows; queue = mid.queue } =
-    ap (λ (x : Workspace). record x { queue = c.set.new.self }) inv.lists in
-    let same : (x : ℕ) → part_in (slice_index mid.queue.items x) ≡ part_in (slice_index old x) =
+    let lists : mid ≡ record first { windows = mid.windows; words = mid.words } =
+    ap (λ (x : Workspace). record x { words = c.set.new.self }) inv.lists in
+    let same : (x : ℕ) → part_in (slice_index mid.words.items x) ≡ part_in (slice_index old x) =
     λ x. rw c.set.ensures.items (set_same part_in old dir c.without_due.result inside
     (c.without_due.ensures.part ∙ ap part_in word) x) in
     let failed = c.in_err-note_directory.ensures in
-    let right = places_same v b old mid.queue.items same (inv.places b k) in
+    let right = places_same v b old mid.words.items same (inv.places b k) in
     survey_noted (failed.leaves.lists
-    ∙ ap (λ (x : Workspace). record x { windows = new.windows; queue = new.queue }) inv.lists) k.2
+    ∙ ap (λ (x : Workspace). record x { windows = new.windows; words = new.words }) inv.lists) k.2
     (places_after (survey_noted lists k.2 right)
     (λ is. (failed.notes b (ap (λ d. d.contents) inv.same ∙ k.0, claims_noted lists k.1) is).right)
     failed.leaves.children right)
@@ -171,15 +171,15 @@ returns-in_err-note_directory-clause-parents g c = λ b k.
     let v = c.args.geometry.now.layout in
     let inv = c.loop-dir.invariant in
     let first = c.args.workspace.now in
-    let old = c.loop-dir.workspace.queue.items in
+    let old = c.loop-dir.workspace.words.items in
     let dir = c.loop-dir.dir in
     let inside : dir < length old = grind (arith, common_steps) in
     let word : c.index-word.result.now ≡ slice_index old dir =
     c.index-word.ensures ∙ get_or_default_zero old dir c.index-word.result.now inside in
     let unread : is_to_be_read (slice_index old dir) ≡ true = ap is_to_be_read (sym word) ∙ (sym c.is_due.ensures ∙ c.if-is_due.true) in
-    let mid : Workspace = record c.loop-dir.workspace { queue = c.set.new.self } in
-    let lists : mid ≡ record first { windows = mid.windows; queue = mid.queue } =
-    ap (λ (x : Workspace). record x { queue = c.set.new.self }) inv.lists in
+    let mid : Workspace = record c.loop-dir.workspace { words = c.set.new.self } in
+    let lists : mid ≡ record first { windows = mid.windows; words = mid.words } =
+    ap (λ (x : Workspace). record x { words = c.set.new.self }) inv.lists in
     let took = (c.in_err-note_directory.ensures.notes b (ap (λ d. d.contents) inv.same ∙ k.0, claims_noted lists k.1)
     (parent_is_dir k.2 (inv.only dir unread))).counted in
     let child = child_of (inv.only dir unread) in

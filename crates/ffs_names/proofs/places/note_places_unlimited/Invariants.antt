@@ -10,15 +10,15 @@ abbrev pub invariant-loop-dir : goal.invariant-loop-dir
 invariant-loop-dir g l = let device = g.I.Image.device in
     let known = WithSurvey l.geometry.layout (device l.fn.image) l.fn.workspace in record {
       same : device l.image ≡ device l.fn.image;
-      lists : l.workspace ≡ record l.fn.workspace { windows = l.workspace.windows; queue = l.workspace.queue };
+      lists : l.workspace ≡ record l.fn.workspace { windows = l.workspace.windows; words = l.workspace.words };
       ready : CanRead l.geometry.layout (device l.image) l.workspace;
       low : 2 ≤ l.dir;
-      were_read : (x : ℕ) → x < l.dir → is_to_be_read (slice_index l.workspace.queue.items x) ≡ false;
-      only : OnlyParents l.fn.workspace.reached.items l.fn.workspace.parents.items l.workspace.queue.items;
+      were_read : (x : ℕ) → x < l.dir → is_to_be_read (slice_index l.workspace.words.items x) ≡ false;
+      only : OnlyParents l.fn.workspace.reached.items l.fn.workspace.parents.items l.workspace.words.items;
       reads : ForBytes known (λ b.
           g.I.Image.reads l.image ≤ g.I.Image.reads l.fn.image
           + costs_below (has_child l.fn.workspace.reached.items l.fn.workspace.parents.items)
           (noted_directory_cost l.geometry.layout b) l.dir);
-      places : ForBytes known (λ b. AreParts l.geometry.layout b l.workspace.queue.items);
-      noted : ForBytes known (λ b. AreComing l.geometry.layout b l.workspace.queue.items);
+      places : ForBytes known (λ b. AreParts l.geometry.layout b l.workspace.words.items);
+      noted : ForBytes known (λ b. AreComing l.geometry.layout b l.workspace.words.items);
     }

@@ -50,7 +50,7 @@ lines_are g c b k =
 
 -- the reads
 reads_few : (g : Over) (c : After-report_header g) (b : List ℕ) → Known g c b →
-    AreNoted c.args.geometry.now.layout b c.args.workspace.now.queue.items →
+    AreNoted c.args.geometry.now.layout b c.args.workspace.now.words.items →
     g.I.Image.reads c.report_header.new.image ≤ g.I.Image.reads c.args.image.now
     + (directory_cost c.args.geometry.now.layout b c.args.dir
     + line_reads * length (dir_header_lines (volume_of c.args.geometry.now.layout b) c.args.dir))
@@ -58,7 +58,7 @@ reads_few g c b k noted =
     let lists = c.in_ok-looked.ensures.looks.leaves.lists in
     let own = c.look_directory.ensures.cost.reads b k.0 in
     let said = (c.report_header.ensures.counted b (known g c b k)
-    (noted_kept c.args.geometry.now.layout b _ c.look_directory.new.workspace.queue.items lists.places noted)).count in
+    (noted_kept c.args.geometry.now.layout b _ c.look_directory.new.workspace.words.items lists.places noted)).count in
     let now = rw (lines_are g c b k) at said in
     omega (arith, own, now)
 

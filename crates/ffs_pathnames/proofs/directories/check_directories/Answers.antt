@@ -6,7 +6,7 @@ use Rattle.ffs_volume.specs.{Directories.Volumes.volume_of, Blocks.Inodes.inodes
 use Rattle.ffs_volume.specs.Costs.DirectoryReads.{directory_cost, noted_directories_cost, is_looked_at}
 use Rattle.ffs_report.proofs.Reporting.{of_begins, of_same, of_part, of_fault, of_reads, said_knows, reports_knowing}
 use Rattle.ffs_report.proofs.Paying.{paid_failed, paid_none, paid_then, paid_within}
-use Rattle.ffs_workspace.proofs.Leaving.{queue_leaves}
+use Rattle.ffs_workspace.proofs.Leaving.{words_leave}
 use Rattle.ffs_pathnames.proofs.Findings.{findings_kept, findings_more, findings_noted}
 use Rattle.ffs_pathnames.{specs.Before.{KnowsBeforeNoted, KnowsBefore}, proofs.{Begun.image_same, Carrying.noted_reported}}
 use Rattle.ffs_pathnames.{proofs.Skipping.{noted_before, unseen}, specs.ReadsLeft.KnowsForNext}
@@ -50,7 +50,7 @@ loop-number-init g c =
           (lines_from (directory_lines (volume_of v b)) first.result (inodes_of v - first.result)) (skipped b k).1)
           (omega (arith, made, noted_all_within v b (v.ncg * v.ipg)));
       checks = λ b k checks. looked_at_next v b c.args.workspace.now c.note_places.new.workspace
-          (queue_leaves c.args.workspace.now c.note_places.new.workspace noted.leaves.lists)
+          (words_leave c.args.workspace.now c.note_places.new.workspace noted.leaves.lists)
           (flags_kept c.args.workspace.now c.note_places.new.workspace noted.leaves.lists) checks;
       looks = λ b k checks.
           let made : g.I.Image.reads c.note_places.new.image ≤ g.I.Image.reads c.args.image.now + noted_directories_cost v b =

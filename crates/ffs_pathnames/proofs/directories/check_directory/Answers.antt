@@ -119,8 +119,8 @@ returns-clause-lines g c =
           (length (dir_header_lines (volume_of v b) c.args.dir))
           (length (entries_reported (volume_of v b) c.args.dir m (roled_entries (volume_of v b) c.args.dir)))
           (length (sized_dir_lines (volume_of v b) c.args.dir)) (one.reads b (first k) noted)
-          (two.reads b (second_of b k) (noted_kept v b c.args.workspace.now.queue.items
-          c.begin_directory.new.workspace.queue.items one.leaves.places noted))
+          (two.reads b (second_of b k) (noted_kept v b c.args.workspace.now.words.items
+          c.begin_directory.new.workspace.words.items one.leaves.places noted))
           (cost_of_dir v b c.args.dir k.knows.dir) (lines_long _ _ _ (parts b k));
       spends = λ b k.
           let cost = cost_of_dir v b c.args.dir k.knows.dir in

@@ -26,18 +26,18 @@ invariant-entries g l =
       ready : CanMakePaths v (reported_by l.image) l.workspace l.texts.kept_parent;
       device : reported_by l.image ≡ reported_by l.fn.image;
       survey : LeavesSurvey l.fn.workspace l.workspace;
-      places : KeepParts l.fn.workspace.queue.items l.workspace.queue.items;
+      places : KeepParts l.fn.workspace.words.items l.workspace.words.items;
       current : l.workspace.windows.current ≡ l.fn.workspace.windows.current;
       path : ForBytes knows_path (λ b. BeginsPathOf (graph_of (volume_of v b)) x.dir l.texts);
       settled : IsTrue l.fn.texts.path_settled → IsTrue l.texts.path_settled;
-      once : ForBytes known (λ b. AreNoted v b l.fn.workspace.queue.items →
+      once : ForBytes known (λ b. AreNoted v b l.fn.workspace.words.items →
           g.I.Image.reads l.image + (path_owed l.texts + again_reads * length (to_come b))
           ≤ g.I.Image.reads l.fn.image + (path_owed l.fn.texts + again_reads * length (all b)));
       passed : ForBytes known (λ b. after_entries (volume_of v b) x.dir (passed_of l.fn.workspace) entries
           ≡ after_entries (volume_of v b) x.dir (passed_of l.workspace) left);
       said : SaidOf knows_path (λ b. map of_tree (to_come b)) (λ b. map of_tree (all b))
           (progress g.W.Output.sink l.fn.report) (progress g.W.Output.sink l.report);
-      counted : (b : List ℕ) → known b → AreNoted v b l.fn.workspace.queue.items →
+      counted : (b : List ℕ) → known b → AreNoted v b l.fn.workspace.words.items →
           HasRead (length (all b)) (length (to_come b)) (g.I.Image.reads l.fn.image) (g.I.Image.reads l.image)
           l.fn.workspace l.workspace;
       paid : Paid {T = Unit {0}} line_reads (progress g.W.Output.sink l.fn.report)

@@ -122,19 +122,19 @@ chunks-preserved g c =
       held = λ b k noted.
           let took = read.takes.reads (inv.held b k noted) b (now g at b k) (enough g at b k) in
           let few = c.report_chunk.ensures.lines.counted b (known b k)
-          (noted_kept v b c.args.workspace.now.queue.items c.chunks.workspace.queue.items inv.places noted) in
+          (noted_kept v b c.args.workspace.now.words.items c.chunks.workspace.words.items inv.places noted) in
           rw (few.blocks, c.report_chunk.ensures.current) took.held;
       reads = λ b k noted.
           let took = read.takes.reads (inv.held b k noted) b (now g at b k) (enough g at b k) in
           let few = c.report_chunk.ensures.lines.counted b (known b k)
-          (noted_kept v b c.args.workspace.now.queue.items c.chunks.workspace.queue.items inv.places noted) in
+          (noted_kept v b c.args.workspace.now.words.items c.chunks.workspace.words.items inv.places noted) in
           let long = lines_long _ _ _ (chunk_reported (volume_of v b) x.number m chunk _ _ (next b k)
           (ok.passed b (known b k))) in
           omega (arith, took.paid, few.count, long, inv.reads b k noted);
       once = λ b k noted.
           let took = read.takes.reads (inv.held b k noted) b (now g at b k) (enough g at b k) in
           let here = c.report_chunk.ensures.lines.once b (known b k)
-          (noted_kept v b c.args.workspace.now.queue.items c.chunks.workspace.queue.items inv.places noted) in
+          (noted_kept v b c.args.workspace.now.words.items c.chunks.workspace.words.items inv.places noted) in
           let long = lines_long _ _ _ (chunk_reported (volume_of v b) x.number m chunk _ _ (next b k)
           (ok.passed b (known b k))) in
           omega (arith, took.paid, here, long, inv.once b k noted);
@@ -211,7 +211,7 @@ returns-in_err-report_chunk-clause-lines g c =
       reads = λ b k noted.
           let took = read.takes.reads (inv.held b k noted) b (now g at b k) (enough g at b k) in
           let few = lines.counted b (known b k)
-          (noted_kept v b c.args.workspace.now.queue.items c.chunks.workspace.queue.items inv.places noted) in
+          (noted_kept v b c.args.workspace.now.words.items c.chunks.workspace.words.items inv.places noted) in
           let long = lines_long _ _ _ (chunk_reported (volume_of v b) x.number m chunk _ _ (next b k) refl) in
           omega (arith, took.paid, few.count, long, inv.reads b k noted);
       spends = left_of g at;
@@ -279,7 +279,7 @@ returns-in_err-report_chunk-clause-once g c = λ b k noted.
     (λ q. chunk_of q.layout.order c.in-Some.offset c.next_chunk.new.bytes ∷ rest b c.next_chunk.new.chunks) inv.geometry in
     let took = read.takes.reads (inv.held b k noted) b (now g at b k) (enough g at b k) in
     let here = c.in_err-report_chunk.ensures.lines.once b (known b k)
-    (noted_kept v b c.args.workspace.now.queue.items c.chunks.workspace.queue.items inv.places noted) in
+    (noted_kept v b c.args.workspace.now.words.items c.chunks.workspace.words.items inv.places noted) in
     let long = lines_long _ _ _ (chunk_reported (volume_of v b) x.number m chunk _ _ next refl) in
     omega (arith, took.paid, here, long, inv.once b k noted)
 

@@ -27,17 +27,17 @@ invariant-chunks g l =
       device : reported_by l.image ≡ reported_by l.fn.image;
       geometry : l.chunks.walk.geometry ≡ l.geometry;
       survey : LeavesSurvey l.fn.workspace l.workspace;
-      places : KeepParts l.fn.workspace.queue.items l.workspace.queue.items;
+      places : KeepParts l.fn.workspace.words.items l.workspace.words.items;
       path : ForBytes known (λ b. BeginsPathOf (graph_of (volume_of v b)) x.number l.checking.texts);
       passed : ForBytes known (λ b.
           after_entries (volume_of v b) x.number (passed_of l.fn.workspace) (roled_entries (volume_of v b) x.number)
           ≡ after_entries (volume_of v b) x.number (passed_of l.workspace) (flat_map roled_chunk (rest b l.chunks)));
-      held : ForBytes known (λ b. AreNoted v b l.fn.workspace.queue.items →
+      held : ForBytes known (λ b. AreNoted v b l.fn.workspace.words.items →
           HoldsReading l.workspace.windows.blocks l.workspace.windows.current l.chunks);
-      reads : ForBytes known (λ b. AreNoted v b l.fn.workspace.queue.items →
+      reads : ForBytes known (λ b. AreNoted v b l.fn.workspace.words.items →
           g.I.Image.reads l.image + to_read b l.chunks + line_reads * length (to_come b)
           ≤ g.I.Image.reads l.fn.image + (directory_runs v b x.number + line_reads * length (all b)));
-      once : ForBytes known (λ b. AreNoted v b l.fn.workspace.queue.items → g.I.Image.reads l.image
+      once : ForBytes known (λ b. AreNoted v b l.fn.workspace.words.items → g.I.Image.reads l.image
           + to_read b l.chunks + (path_owed l.checking.texts + again_reads * length (to_come b))
           ≤ g.I.Image.reads l.fn.image
           + (directory_runs v b x.number + (path_reads + again_reads * length (all b))));

@@ -7,7 +7,7 @@ use Rattle.ffs_workspace.specs.Holds.{HoldsBlockCheck, HoldsSurvey}
 use Rattle.ffs_names.{specs.Readings.{rest, gap_left}, proofs.{DirCosts.runs_are, DirLaws.{dir_is, dir_size}}}
 use Rattle.ffs_pathnames.specs.{PassedNames.{are_quiet, after_looks}, Stamps.stamps_of}
 use Rattle.ffs_pathnames.specs.Sees.{passed_of}
-use Rattle.ffs_pathnames.{specs.StartChunks.start_chunk, proofs.StampLaws.{queue_leaves, words_more}}
+use Rattle.ffs_pathnames.{specs.StartChunks.start_chunk, proofs.StampLaws.{words_leave, words_more}}
 use Rattle.ffs_pathnames.proofs.SeesLaws.{chunks_are, chunks_read, cut_here, gap_is, seen_are, sees}
 use Rattle.ffs_pathnames.proofs.ReadyLaws.{can_read_in, can_read_more, others_stay, ready_looked}
 use Rattle.ffs_pathnames.proofs.Looking.{chunk_quiet, chunk_stamps, chunk_sound, all_quiet, all_stamps, all_sound}
@@ -128,7 +128,7 @@ returns g c =
                   ∙ ap (after_looks (volume_of v b) x.number (passed_of w).stamps) (seen_are v b x.number _ chunks),
             );
         leaves = record {
-          lists = queue_leaves w _ refl inv.words.places;
+          lists = words_leave w _ refl inv.words.places;
           ready = ready_looked v _ _ w _ _ c.requires.ready.ready
               (ap (λ d. d.contents) (gap.leaves.read ∙ (read.read ∙ inv.same)))
               (others_stay w.windows c.chunks.windows c.gap_of.new.blocks c.next.new.window inv.others)
@@ -159,7 +159,7 @@ returns-in_err-offset g c =
       looks = record {
         found = tt;
         leaves = record {
-          lists = queue_leaves w _ refl inv.words.places;
+          lists = words_leave w _ refl inv.words.places;
           ready = ready_looked v _ _ w _ _ c.requires.ready.ready
               (read.read.contents ∙ ap (λ d. d.contents) inv.same)
               (others_stay w.windows c.chunks.windows c.next.new.blocks c.next.new.window inv.others)
@@ -188,7 +188,7 @@ returns-in_err-gap g c =
       looks = record {
         found = tt;
         leaves = record {
-          lists = queue_leaves w _ refl inv.words.places;
+          lists = words_leave w _ refl inv.words.places;
           ready = ready_looked v _ _ w _ _ c.requires.ready.ready
               (gap.read.contents ∙ ap (λ d. d.contents) (read.read ∙ inv.same))
               (others_stay w.windows c.chunks.windows c.gap_of.new.blocks c.next.new.window inv.others)

@@ -8,9 +8,9 @@ use Rattle.ffs_pathnames.proofs.look.look_directory_unlimited.Goals as goal
 -- what is known of the directory once its inode is read
 known : (g : Over) (c : After-look_chunks g) (b : List ℕ) → KnowsNoted c.args.geometry.now.layout
     (g.I.Image.device c.args.image.now).contents c.args.workspace.now c.args.dir b →
-    KnowsDirectory c.args.geometry.now.layout (g.I.Image.device c.inode_by_part.new.image)
+    KnowsDirectory c.args.geometry.now.layout (g.I.Image.device c.inode_by_piece.new.image)
     (record c.args.workspace.now
-    { windows = record c.args.workspace.now.windows { table = c.inode_by_part.new.self } })
+    { windows = record c.args.workspace.now.windows { table = c.inode_by_piece.new.self } })
     (record { number = c.args.dir; inode = c.in_ok-inode.inode }) b
 known g c b k =
     let read = c.in_ok-inode.ensures.inode.reads in (
@@ -31,8 +31,8 @@ reads_few : (g : Over) (c : After-look_chunks g) (b : List ℕ) → KnowsNoted c
     ≤ g.I.Image.reads c.args.image.now + directory_cost c.args.geometry.now.layout b c.args.dir
 reads_few g c b k = grind (arith, known)
 
-pub inode_by_part-requires : goal.inode_by_part-requires
-inode_by_part-requires g c = grind arith
+pub inode_by_piece-requires : goal.inode_by_piece-requires
+inode_by_piece-requires g c = grind arith
 
 pub look_chunks-requires : goal.look_chunks-requires
 look_chunks-requires g c = grind arith

@@ -16,6 +16,6 @@ returns c =
       survey = leaves_more {b = mid} (windows_leave old mid forgot) (search rules);
       flags = λ x. rw (← kinds, ← marked, ← flags) (search (rules, with_items_is));
       stamps = λ x. none_stamped _ _ x
-          (none_due _ x (ap (λ (w : Workspace). slice_index w.queue.items x) forgot ∙ c.requires.unnoted x));
+          (none_due _ x (ap (λ (w : Workspace). slice_index w.words.items x) forgot ∙ c.requires.unnoted x));
       ready = λ v d r. ready_passed v d mid _ _ (c.forget_windows.ensures.forgets v d r) (search rules) (search rules);
     }

@@ -8,7 +8,7 @@ use Rattle.ffs_paths.proofs.name.find_by_place.Goals as goal
 
 -- the part that is looked at is the noted one
 part_is : (g : given.Over) (c : goal.After-find_in_chunks g) →
-    part_in (slice_index c.args.workspace.now.queue.items c.args.dir) ≡ suc c.in-Some.part
+    part_in (slice_index c.args.workspace.now.words.items c.args.dir) ≡ suc c.in-Some.part
 part_is g c = grind (arith, get_or_default)
 
 -- its entries are those of the bytes that were read

@@ -57,7 +57,7 @@ entries-init g c = record {
       let begins = c.start-entries.ensures.begins in
       let few = runs_begun c.args.parent c.args.geometry.now.sound k.1 (c.in_ok-inode.ensures.inode.reads.inode b k.0)
       c.noted_cut-cut.ensures begins in
-      (omega (arith, c.inode_by_part.ensures.inode.counted, few), begins.held _ _);
+      (omega (arith, c.inode_by_piece.ensures.inode.counted, few), begins.held _ _);
 }
 
 pub entries-preserved : goal.entries-preserved

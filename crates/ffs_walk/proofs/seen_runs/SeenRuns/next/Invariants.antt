@@ -1,7 +1,7 @@
 use Rattle.std.proofs.Common.{◌≡◌, ◌+◌, ◌≤◌}
 use Rattle.ffs_image.specs.Device.{ForContents}
-use Rattle.ffs_walk.specs.{Counts.{AreHeld, unread}, KeptRuns.kept_runs_left, Rests.{IsOver, most_steps_left}, Windows.KeepsBlocks}
-use Rattle.ffs_walk.proofs.kept_runs.KeptRuns.next.Given as goal
+use Rattle.ffs_walk.specs.{Counts.{AreHeld, unread}, SeenRuns.seen_runs_left, Rests.{IsOver, most_steps_left}, Windows.KeepsBlocks}
+use Rattle.ffs_walk.proofs.seen_runs.SeenRuns.next.Given as goal
 
 abbrev pub invariant-loop-step : goal.invariant-loop-step
 invariant-loop-step g l =
@@ -12,7 +12,7 @@ invariant-loop-step g l =
       geometry : l.self.walk.geometry ≡ begun.walk.geometry;
       image : g.I.Image.device l.image ≡ d;
       blocks : KeepsBlocks begun.walk.geometry.layout d.contents l.initial.blocks l.blocks;
-      left : ForContents d.contents (λ bytes. kept_runs_left bytes begun ≡ kept_runs_left bytes l.self);
+      left : ForContents d.contents (λ bytes. seen_runs_left bytes begun ≡ seen_runs_left bytes l.self);
       falls : most_steps_left l.self.walk ≤ most_steps_left begun.walk;
       held : AreHeld l.initial.blocks begun.walk → AreHeld l.blocks l.self.walk;
       over : IsOver begun.walk → IsOver l.self.walk × (g.I.Image.reads l.image ≡ g.I.Image.reads l.initial.image);

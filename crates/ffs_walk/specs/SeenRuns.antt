@@ -6,29 +6,29 @@ use Rattle.ffs_volume.specs.declared.{Inode.Inode, Layout.Layout, Step.{Step, Th
 use Rattle.ffs_volume.specs.{Blocks.Steps.steps_of, Encodings.Replay.{Replay, fresh_replay, is_replay_open}}
 use Rattle.ffs_volume.specs.Encodings.Replay.{replay_after_step}
 use Rattle.ffs_layout.specs.declared.geometry.Geometry.{Geometry}
-use Rattle.ffs_walk.specs.{declared.{blocks.Blocks.Blocks, kept_runs.{KeptRun.KeptRun, KeptRuns.KeptRuns}, walk.Walk.Walk}}
+use Rattle.ffs_walk.specs.{declared.{blocks.Blocks.Blocks, seen_runs.{SeenRun.SeenRun, SeenRuns.SeenRuns}, walk.Walk.Walk}}
 use Rattle.ffs_walk.specs.{Counts.{AreHeld, unread}, Keepings.{replay_in, run_taken}, Windows.{BlocksAfter, ImageWith}}
 use Rattle.ffs_walk.specs.Rests.{IsAtTop, IsOver, most_steps_left, steps_left}
 
 -- the Run of a step, if it is seen
-abbrev pub step_run : Layout → (cut : ℕ) → Replay → Step → List KeptRun
+abbrev pub step_run : Layout → (cut : ℕ) → Replay → Step → List SeenRun
 step_run v cut r (Run start len block) = if is_replay_open cut r
-    then record { start = start; taken = run_taken v cut r start len; block = block } ∷ [] else []
+    then record { start = start; kept = run_taken v cut r start len; block = block } ∷ [] else []
 step_run v cut r Tail = []
 step_run v cut r Gap = []
 
 -- the Runs of steps that are seen, each with how many of its offers are kept
-unfoldable pub kept_runs : Layout → (cut : ℕ) → Replay → List Step → List KeptRun
-kept_runs v cut r [] = []
-kept_runs v cut r (step ∷ steps) = step_run v cut r step ++ kept_runs v cut (replay_after_step v cut r step) steps
+unfoldable pub seen_runs : Layout → (cut : ℕ) → Replay → List Step → List SeenRun
+seen_runs v cut r [] = []
+seen_runs v cut r (step ∷ steps) = step_run v cut r step ++ seen_runs v cut (replay_after_step v cut r step) steps
 
 -- those that are left, in an image of these bytes
-abbrev pub kept_runs_left : List ℕ → KeptRuns → List KeptRun
-kept_runs_left bytes k = kept_runs k.walk.geometry.layout k.keeping.cut (replay_in k.keeping) (steps_left bytes k.walk)
+abbrev pub seen_runs_left : List ℕ → SeenRuns → List SeenRun
+seen_runs_left bytes k = seen_runs k.walk.geometry.layout k.keeping.cut (replay_in k.keeping) (steps_left bytes k.walk)
 
 -- all Runs of an inode with this cut are left
-pub record AreRunsOf (g : Geometry) (inode : Inode) (cut : ℕ) (k : KeptRuns) : Type 0 where
-  pub runs : (bytes : List ℕ) → kept_runs_left bytes k ≡ kept_runs g.layout cut fresh_replay (steps_of g.layout inode bytes)
+pub record AreRunsOf (g : Geometry) (inode : Inode) (cut : ℕ) (k : SeenRuns) : Type 0 where
+  pub runs : (bytes : List ℕ) → seen_runs_left bytes k ≡ seen_runs g.layout cut fresh_replay (steps_of g.layout inode bytes)
   pub geometry : k.walk.geometry ≡ g
   pub top : IsAtTop k.walk
 
@@ -37,26 +37,26 @@ abbrev pub indirect_by : Option ℕ → ℕ
 indirect_by None = 1
 indirect_by (Some block) = 0
 
-abbrev pub indirect_in_run : KeptRun → ℕ
+abbrev pub indirect_in_run : SeenRun → ℕ
 indirect_in_run run = indirect_by run.block
 
-abbrev pub indirect_given : Option KeptRun → ℕ
+abbrev pub indirect_given : Option SeenRun → ℕ
 indirect_given None = 0
 indirect_given (Some run) = indirect_in_run run
 
 -- no Run comes any more: the inode is cut, or the walk is over
-abbrev pub IsDone : KeptRuns → Type 0
+abbrev pub IsDone : SeenRuns → Type 0
 IsDone k = (is_replay_open k.keeping.cut (replay_in k.keeping) ≡ false) ⊎ IsOver k.walk
 
 -- the next Run in an image of these contents is given, and the others are left; None comes after the last
-pub record IsNextRun (contents : Option (List ℕ)) (old new : KeptRuns) (answer : Option KeptRun) : Type 0 where
-  pub runs : ForContents contents (λ bytes. MatchOption answer (kept_runs_left bytes old ≡ [])
-      (λ run. kept_runs_left bytes old ≡ run ∷ kept_runs_left bytes new))
+pub record IsNextRun (contents : Option (List ℕ)) (old new : SeenRuns) (answer : Option SeenRun) : Type 0 where
+  pub runs : ForContents contents (λ bytes. MatchOption answer (seen_runs_left bytes old ≡ [])
+      (λ run. seen_runs_left bytes old ≡ run ∷ seen_runs_left bytes new))
   pub falls : IfSome answer (λ _. most_steps_left new.walk < most_steps_left old.walk)
   pub done : answer ≡ None → IsDone new
 
 -- giving a Run reads only a block that was still to be read
-pub record RunReads (before after : ImageWith Blocks) (old new : Walk) (result : Result (Option KeptRun) ImageFault) :
+pub record RunReads (before after : ImageWith Blocks) (old new : Walk) (result : Result (Option SeenRun) ImageFault) :
     Type 0 where
   pub most : after.reads ≤ before.reads + unread old
   pub paid : IfOk result (λ answer. after.reads + unread new ≤ before.reads + unread old + indirect_given answer)
@@ -65,7 +65,7 @@ pub record RunReads (before after : ImageWith Blocks) (old new : Walk) (result :
 -- the next Run is given, or a read failed. After that, and after None, none comes, and nothing is read. Where the
 -- blocks that were read are held, only one that was still to be read is read; in any case at most one for each
 -- step that is left, and one more
-pub record GivesRun (before after : ImageWith Blocks) (old new : KeptRuns) (result : Result (Option KeptRun) ImageFault)
+pub record GivesRun (before after : ImageWith Blocks) (old new : SeenRuns) (result : Result (Option SeenRun) ImageFault)
     : Type 0 where
   pub run : IfOk result (IsNextRun before.image.contents old new)
   pub over : OnErr result (IsDone new)

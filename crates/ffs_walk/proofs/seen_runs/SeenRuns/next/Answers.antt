@@ -3,7 +3,7 @@ use Rattle.ffs_volume.specs.{Encodings.Replay.is_replay_open}
 use Rattle.ffs_walk.specs.{Keepings.replay_in}
 use Rattle.ffs_walk.proofs.ReplayedRuns.{closed_runs, gaps_left, none_left, run_left, tail_left}
 use Rattle.ffs_walk.proofs.Splices.{keeps_then}
-use Rattle.ffs_walk.proofs.kept_runs.KeptRuns.next.Goals as goal
+use Rattle.ffs_walk.proofs.seen_runs.SeenRuns.next.Goals as goal
 
 pub returns-then-not-is_replay_open : goal.returns-then-not-is_replay_open
 returns-then-not-is_replay_open g c =
@@ -61,7 +61,7 @@ returns-in-Run g c =
     let v = c.next.new.self.geometry.layout in
     let image = did.leaves.read ∙ inv.image in
     let next = rw (inv.image, c.in-Some.is, c.in-Run.is) at did.step.steps in
-    let took = c.take-taken.ensures in
+    let took = c.take-kept.ensures in
     let replays = took.replays v c.in-Run.start c.in-Run.block c.in_range-in_range.ensures in
     let same = did.same.geometry in
     let going : is_replay_open c.loop-step.self.keeping.cut (replay_in c.loop-step.self.keeping) ≡ true =

@@ -9,32 +9,32 @@ use ffs_volume::{Inode, Step};
 
 /// A Run of an inode that is seen.
 #[derive(Clone, Copy, Debug)]
-pub struct KeptRun {
+pub struct SeenRun {
     /// Its first fragment.
     pub start: u32,
     /// How many of its offers are kept: the first ones.
-    pub taken: u32,
+    pub kept: u32,
     /// Its logical block, and none for that of an indirect block.
     pub block: Option<u64>,
 }
 
 /// The Runs of an inode, one after another, until the inode is cut.
 #[derive(Clone, Copy, Debug)]
-pub struct KeptRuns {
+pub struct SeenRuns {
     /// The walk over the inode's blocks.
     pub walk: Walk,
     /// Which offers of the Runs so far were kept.
     pub keeping: Keeping,
 }
 
-impl KeptRuns {
-    ghost use Rattle.ffs_walk.specs.{KeptRuns.{AreRunsOf, GivesRun}, Windows.{CanWalk, image_with}};
+impl SeenRuns {
+    ghost use Rattle.ffs_walk.specs.{SeenRuns.{AreRunsOf, GivesRun}, Windows.{CanWalk, image_with}};
 
     /// The Runs of an inode with this cut, before the first one.
-    pub fn start(geometry: &Geometry, inode: &Inode, cut: u32) -> KeptRuns
+    pub fn start(geometry: &Geometry, inode: &Inode, cut: u32) -> SeenRuns
         ensures { AreRunsOf geometry.now inode.now cut result }
     {
-        KeptRuns {
+        SeenRuns {
             walk: Walk::start(geometry, inode),
             keeping: Keeping::start(cut),
         }
@@ -49,7 +49,7 @@ impl KeptRuns {
         &mut self,
         image: &mut I,
         blocks: &mut Blocks,
-    ) -> Result<Option<KeptRun>, ImageFault>
+    ) -> Result<Option<SeenRun>, ImageFault>
         requires { CanWalk self.old.walk.geometry.layout (I.device image.old) blocks.old }
         ensures { GivesRun (image_with I.Image image.old blocks.old)
             (image_with I.Image image.new blocks.new) self.old self.new result }
@@ -61,10 +61,10 @@ impl KeptRuns {
             match step {
                 Step::Run { start, len, block } => {
                     let in_range = self.walk.geometry.in_range(start, len);
-                    let taken = self.keeping.take(len, in_range);
-                    return Ok(Some(KeptRun {
+                    let kept = self.keeping.take(len, in_range);
+                    return Ok(Some(SeenRun {
                         start,
-                        taken,
+                        kept,
                         block,
                     }));
                 }
