@@ -1,5 +1,5 @@
-use Rattle.std.proofs.{Common.{◌∙◌, arith, rules, sym, ap}, lemmas.Result.err_from_is_err_and}
-use Rattle.ffs_volume.specs.Find.Copies.{copy_lines_of}
+use Rattle.std.proofs.Common.{◌∙◌, arith, rules, sym, ap}
+use Rattle.ffs_volume.{specs.Find.Copies.copy_lines_of, proofs.Results.fails_with}
 use Rattle.ffs_finding.proofs.Printing.{one, one_broken, prints_all, prints_none, stops_all, reads_first}
 use Rattle.ffs_finding.proofs.CopySteps.{no_line, one_read, same_super, super_unread, holds_on}
 use Rattle.ffs_finding.proofs.copies.find_copy.Goals as goal
@@ -27,14 +27,12 @@ returns-then-not-found g c =
 
 pub returns-in_err-print_copy-in-Ok : goal.returns-in_err-print_copy-in-Ok
 returns-in_err-print_copy-in-Ok g c =
-    let p = err_from_is_err_and c.from_residual-in_err-print_copy-in-Ok.result
-    c.from_residual-in_err-print_copy-in-Ok.ensures.1 in
     let e = c.in_ok-found.ensures.answer in
     let read = c.has_magic.ensures.reads in
     let s = same_super e.read c.in-Ok.ensures.answer in
     let more = one_read (g.I.Image.device c.args.image.now) c.args.sector
     (λ b k. sym c.if-not-found.false ∙ e.answer b k) in
-    rw (p.1, p.2) (record {
+    rw (fails_with _ c.from_residual-in_err-print_copy-in-Ok.ensures.1) (record {
       found = record {
         image = s.0;
         text = stops_all (λ b k. ap (copy_lines_of c.args.sector) (sym (s.1 b k)))

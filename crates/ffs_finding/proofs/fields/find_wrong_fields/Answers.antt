@@ -1,7 +1,7 @@
 use Rattle.std.proofs.Common.{◌≡◌, ◌∙◌, ◌*◌, ◌++◌, ℕ, List, [], arith, rules, refl, ap, append-nil, length, take, drop}
 use Rattle.std.{proofs.{Common.Option, lemmas.Result.err_from_is_err_and}, specs.List.{concat, flat_map}}
 use Rattle.ffs_volume.specs.{Disk.{Numbers.piece, Outcome.{super_bytes, super_sector}}, Find.Fields.field_lines}
-use Rattle.ffs_volume.specs.Find.Fields.{total_fields}
+use Rattle.ffs_volume.{specs.Find.Fields.total_fields, proofs.Results.fails_with}
 use Rattle.ffs_layout.{specs.Super.superblock_in, proofs.{Copying.default_sector, Answering.taken}}
 use Rattle.ffs_report.proofs.Sinks.{took_nil, took_then, broke_off_after}
 use Rattle.ffs_finding.{specs.Fields.wrong_lines, proofs.{FieldTexts.{too_short, first, both}, Printing.any_more}}
@@ -38,8 +38,7 @@ pub returns-in_err-of_layout-clause-prints : goal.returns-in_err-of_layout-claus
 returns-in_err-of_layout-clause-prints g c =
     let at = c.from-start.ensures ∙ c.unwrap_or.ensures ∙ default_sector c.args.sector in
     let s = superblock_in c.args.superblock.now in
-    let p = err_from_is_err_and c.from_residual-in_err-of_layout.result c.from_residual-in_err-of_layout.ensures.1 in
-    rw (p.1, p.2) (record {
+    rw (fails_with _ c.from_residual-in_err-of_layout.ensures.1) (record {
       found = record {
         image = search rules;
         text = record {
@@ -58,10 +57,9 @@ pub returns-in_err-of_totals-clause-prints : goal.returns-in_err-of_totals-claus
 returns-in_err-of_totals-clause-prints g c =
     let at = c.from-start.ensures ∙ c.unwrap_or.ensures ∙ default_sector c.args.sector in
     let s = superblock_in c.args.superblock.now in
-    let p = err_from_is_err_and c.from_residual-in_err-of_totals.result c.from_residual-in_err-of_totals.ensures.1 in
     let xs = wrong_lines (c.from-start.result * 512) c.layout_fields.result in
     let ys = wrong_lines (c.from-start.result * 512) c.total_fields.result in
-    rw (p.1, p.2) (record {
+    rw (fails_with _ c.from_residual-in_err-of_totals.ensures.1) (record {
       found = record {
         image = search rules;
         text = record {

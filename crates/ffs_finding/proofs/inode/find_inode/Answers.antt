@@ -1,6 +1,6 @@
 use Rattle.std.proofs.Common.{◌≡◌, ℕ, ◌*◌, ◌<◌, ◌≤◌, List, [], ◌∷◌, arith, rules, length}
 use Rattle.std.proofs.{Common.{take, drop}, lemmas.{Result.err_from_is_err_and, Bool.Decides.nat_tests}}
-use Rattle.ffs_volume.specs.{declared.Layout.Layout, Disk.{Areas.inode_place}}
+use Rattle.ffs_volume.{specs.{declared.Layout.Layout, Disk.Areas.inode_place}, proofs.Results.fails_with}
 use Rattle.ffs_volume.{specs.{Blocks.Inodes.inode_from_bytes, Find.InodeText.bytes_text}, proofs.AreaLaws.inode_group}
 use Rattle.ffs_volume.specs.Find.InodeText.{inode_listing}
 use Rattle.ffs_workspace.proofs.TablePlaces.{piece_inside}
@@ -35,9 +35,7 @@ returns-in_err-read_at-clause-prints g c = grind (arith, err_from_is_err_and, re
 pub returns-in_err-print_bytes-clause-prints : goal.returns-in_err-print_bytes-clause-prints
 returns-in_err-print_bytes-clause-prints g c =
     let v = c.args.geometry.now.layout in
-    let p = err_from_is_err_and c.from_residual-in_err-print_bytes.result
-    c.from_residual-in_err-print_bytes.ensures.1 in
-    rw (p.1, p.2) (record {
+    rw (fails_with _ c.from_residual-in_err-print_bytes.ensures.1) (record {
       image = search rules;
       text = stops_all (λ b k. lines_are v b c.read_at.new.buf c.args.number _ (omega arith) c.inode_place-place.ensures
           (search rules) (c.in_ok-read_at.ensures.bytes.bytes b k)) (one_broken c.in_err-print_bytes.ensures);

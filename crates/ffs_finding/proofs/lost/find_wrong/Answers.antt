@@ -1,4 +1,5 @@
-use Rattle.std.proofs.{Common.{◌∙◌, ◌+◌, ℕ, List, [], ◌++◌, ap, arith, refl, sym}, lemmas.Result.err_from_is_err_and}
+use Rattle.std.proofs.Common.{◌∙◌, ◌+◌, ℕ, List, [], ◌++◌, ap, arith, refl, sym}
+use Rattle.ffs_volume.proofs.Results.{fails_with}
 use Rattle.ffs_maps.specs.Bits.{bits_of}
 use Rattle.ffs_groups.specs.Free.{free_in}
 use Rattle.ffs_report.proofs.Sinks.{took_nil}
@@ -27,8 +28,7 @@ pub returns-in_err-fill_group-clause-prints : goal.returns-in_err-fill_group-cla
 returns-in_err-fill_group-clause-prints g c =
     let inv = c.loop-group.invariant in
     let fill = rw (inv.device) at c.in_err-fill_group.ensures.fills in
-    let p = err_from_is_err_and c.from_residual.result c.from_residual.ensures.1 in
-    rw (p.1, p.2) (record {
+    rw (fails_with _ c.from_residual.ensures.1) (record {
       lines = record { found = record { image = fill.read; text = reads_after inv.printed.printed }; any = tt };
       reads = omega (arith, inv.reads, fill.counted, c.loop-group-test.true);
     })
@@ -40,8 +40,7 @@ returns-in_err-found-clause-prints g c =
     let inv = c.loop-group.invariant in
     let n = c.loop-group.group in
     let fill = rw (inv.device) at c.in_ok-fill_group.ensures.fills in
-    let p = err_from_is_err_and c.from_residual-in_err-found.result c.from_residual-in_err-found.ensures.1 in
-    rw (p.1, p.2) (record {
+    rw (fails_with _ c.from_residual-in_err-found.ensures.1) (record {
       lines = record {
         found = record {
           image = fill.read;

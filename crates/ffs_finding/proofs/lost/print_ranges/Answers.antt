@@ -1,5 +1,5 @@
 use Rattle.std.proofs.Common.{arith}
-use Rattle.std.proofs.lemmas.Result.{err_from_is_err_and}
+use Rattle.ffs_volume.proofs.Results.{fails_with}
 use Rattle.ffs_finding.proofs.Stretches.{at_begin, at_end, at_next, broke_at}
 use Rattle.ffs_finding.proofs.lost.print_ranges.Goals as goal
 
@@ -7,13 +7,11 @@ pub loop-first-init : goal.loop-first-init
 loop-first-init g c = search (arith, at_begin)
 
 pub returns-in_err-print_range : goal.returns-in_err-print_range
-returns-in_err-print_range g c =
-    let p = err_from_is_err_and c.from_residual.result c.from_residual.ensures.1 in
-    rw (p.1) (record {
-      text = broke_at _ _ _ _ c.loop-first.invariant c.loop-first-test.true c.first_with-end.ensures
-          (rw c.word.ensures at c.in_err-print_range.ensures);
-      any = tt;
-    })
+returns-in_err-print_range g c = rw (fails_with _ c.from_residual.ensures.1) (record {
+  text = broke_at _ _ _ _ c.loop-first.invariant c.loop-first-test.true c.first_with-end.ensures
+      (rw c.word.ensures at c.in_err-print_range.ensures);
+  any = tt;
+})
 
 pub loop-first-preserved : goal.loop-first-preserved
 loop-first-preserved g c = at_next _ _ _ _ c.loop-first.invariant c.loop-first-test.true c.first_with-end.ensures

@@ -1,6 +1,5 @@
 use Rattle.std.proofs.Common.{◌∙◌, ◌+◌, [], arith, refl, ap, length}
-use Rattle.std.proofs.lemmas.Result.{err_from_is_err_and}
-use Rattle.ffs_volume.specs.{Blocks.Steps.steps_of, Encodings.Replay.fresh_replay}
+use Rattle.ffs_volume.{specs.{Blocks.Steps.steps_of, Encodings.Replay.fresh_replay}, proofs.Results.fails_with}
 use Rattle.ffs_report.proofs.Sinks.{took_nil}
 use Rattle.ffs_walk.{proofs.Counted.{top_held, top_unread}, specs.SeenRuns.{indirect_in_run, seen_runs_left}}
 use Rattle.ffs_walk.proofs.ReplayedRuns.{indirect_most, runs_counted}
@@ -29,10 +28,9 @@ next-requires g c = grind arith
 
 pub returns-in_err-run-clause-finds : goal.returns-in_err-run-clause-finds
 returns-in_err-run-clause-finds g c =
-    let p = err_from_is_err_and c.from_residual.result c.from_residual.ensures.1 in
     let inv = c.loop-run.invariant in
     let reads = c.in_err-run.ensures.counted inv.held in
-    rw (p.1, p.2) (record {
+    rw (fails_with _ c.from_residual.ensures.1) (record {
       found = record {
         image = rw inv.device at c.in_err-run.ensures.leaves.read;
         text = reads_after inv.printed;
@@ -46,13 +44,12 @@ print_run-requires g c = omega (arith, c.loop-run.invariant.room)
 pub returns-in_err-print_run-clause-finds : goal.returns-in_err-print_run-clause-finds
 returns-in_err-print_run-clause-finds g c =
     let from = c.from_residual-in_err-print_run in
-    let p = err_from_is_err_and from.result from.ensures.1 in
     let inv = c.loop-run.invariant in
     let s = c.args.sought in
     let run = c.in-Some.run' in
     let next = rw (inv.device, c.in-Some.is) at c.in_ok-run.ensures.run.runs in
     let reads = c.in_ok-run.ensures.counted inv.held in
-    rw (p.1, p.2) (record {
+    rw (fails_with _ from.ensures.1) (record {
       found = record {
         image = c.in_ok-run.ensures.leaves.read ∙ inv.device;
         text = stops _ _ (λ b. lines_of_runs s.fragment s.number (c.loop-run.earlier + indirect_in_run run)

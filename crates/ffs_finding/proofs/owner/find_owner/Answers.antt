@@ -1,9 +1,9 @@
 use Rattle.std.proofs.Common.{◌≡◌, ◌∙◌, ℕ, ◌<◌, ◌≤◌, Bool, true, false, List, [], ◌∷◌, nat_lt, arith, refl, sym, ap, rules}
-use Rattle.std.proofs.lemmas.{Bool.Decides.nat_tests, Result.err_from_is_err_and}
+use Rattle.std.proofs.lemmas.Bool.Decides.{nat_tests}
 use Rattle.ffs_image.specs.Device.{Device}
 use Rattle.ffs_volume.specs.{Blocks.Claims.is_set, Disk.Areas.is_reserved, Laws.Geometry.IsAcceptedLayout}
 use Rattle.ffs_volume.specs.{declared.Layout.Layout, Find.Owner.{keeper_lines, or_lines, lines_of_fragment}}
-use Rattle.ffs_volume.specs.Find.Owner.{reserved_text}
+use Rattle.ffs_volume.{specs.Find.Owner.reserved_text, proofs.Results.fails_with}
 use Rattle.ffs_maps.specs.Bits.{bits_of}
 use Rattle.ffs_image.specs.Known.{ForBytes}
 use Rattle.ffs_workspace.specs.declared.workspace.Workspace.{Workspace}
@@ -49,13 +49,11 @@ pub returns-then-fragment-geometry-clause-prints : goal.returns-then-fragment-ge
 returns-then-fragment-geometry-clause-prints g c = search (arith, prints_none, no_fragment)
 
 pub returns-in_err-print_reserved-clause-prints : goal.returns-in_err-print_reserved-clause-prints
-returns-in_err-print_reserved-clause-prints g c =
-    let p = err_from_is_err_and c.from_residual.result c.from_residual.ensures.1 in
-    rw (p.1, p.2) (record {
-      image = refl;
-      text = stops_all (λ b k. is_reserved_line c.args.geometry.now.layout b c.args.fragment (omega arith)
-          (sym c.reserved.ensures ∙ c.if-reserved.true)) (one_broken c.in_err-print_reserved.ensures);
-    })
+returns-in_err-print_reserved-clause-prints g c = rw (fails_with _ c.from_residual.ensures.1) (record {
+  image = refl;
+  text = stops_all (λ b k. is_reserved_line c.args.geometry.now.layout b c.args.fragment (omega arith)
+      (sym c.reserved.ensures ∙ c.if-reserved.true)) (one_broken c.in_err-print_reserved.ensures);
+})
 
 pub returns-then-reserved-clause-prints : goal.returns-then-reserved-clause-prints
 returns-then-reserved-clause-prints g c = record {

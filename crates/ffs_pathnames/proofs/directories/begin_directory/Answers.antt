@@ -1,8 +1,7 @@
 use Rattle.std.proofs.Common.{◌∙◌, ap, map, arith, length, ◌≡◌, ◌≤◌, ◌+◌, ◌*◌, ℕ, List, option_map}
-use Rattle.std.proofs.lemmas.Result.{err_from_is_err_and}
 use Rattle.ffs_volume.specs.{Messages.Kinds.of_tree, Blocks.Inodes.inode_of, Directories.Volumes.volume_of}
 use Rattle.ffs_volume.specs.Directories.{Naming.graph_of, PathnameCheck.{attributes, attributes_of, dir_header_lines}}
-use Rattle.ffs_volume.specs.Directories.PathnameCheck.{header_defects}
+use Rattle.ffs_volume.{specs.Directories.PathnameCheck.header_defects, proofs.Results.fails_with}
 use Rattle.ffs_volume.specs.{Directories.{PathnameCheck.header_lines, Paths.dir_path}, Report.Reads.line_reads}
 use Rattle.ffs_volume.specs.{Costs.DirectoryReads.directory_cost, Encodings.Places.AreNoted}
 use Rattle.ffs_report.proofs.{Reporting.{of_begins, of_reads}, Paying.{paid_answer, paid_failed, paid_beside}}
@@ -73,8 +72,7 @@ pub returns-in_err-looked : goal.returns-in_err-looked
 returns-in_err-looked g c =
     let looks = c.in_err-looked.ensures in
     let left = looks.looks.leaves in
-    let p = err_from_is_err_and c.from_residual.result c.from_residual.ensures.1 in
-    rw (p.1, p.2) (record {
+    rw (fails_with _ c.from_residual.ensures.1) (record {
       text = of_reads of_begins;
       reads = λ b k noted. omega (arith, looks.cost.reads b k.0);
       spends = λ b k. looks.cost.spends b k.0;
@@ -94,9 +92,7 @@ returns-in_err-report_header g c =
     let looks = c.in_ok-looked.ensures in
     let lists = looks.looks.leaves.lists in
     let said = c.in_err-report_header.ensures in
-    let p = err_from_is_err_and c.from_residual-in_err-report_header.result
-    c.from_residual-in_err-report_header.ensures.1 in
-    rw (p.1, p.2) (record {
+    rw (fails_with _ c.from_residual-in_err-report_header.ensures.1) (record {
       text = fault_same (Unit {0}) FirstLook _ _ _ _ _ _ c.in_err-report_header.field-0.0
           (known g at) (λ b k. ap (map of_tree) (lines_are g at b k)) said.text;
       reads = reads_few g at;

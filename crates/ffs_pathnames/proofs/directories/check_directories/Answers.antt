@@ -1,6 +1,6 @@
 use Rattle.std.proofs.Common.{◌+◌, ◌-◌, ◌*◌, ◌<◌, [], map, refl, sym, ap, subst, ◌≡◌, ◌∙◌, suc, arith, rules, Err, List}
-use Rattle.std.proofs.{Common.{ℕ, ◌≤◌, true}, lemmas.Result.err_from_is_err_and}
-use Rattle.ffs_volume.proofs.Numbered.{as_many, from_next, from_end, count_next as next_long}
+use Rattle.std.proofs.Common.{ℕ, ◌≤◌, true}
+use Rattle.ffs_volume.proofs.{Numbered.{as_many, from_next, from_end, count_next as next_long}, Results.fails_with}
 use Rattle.ffs_volume.specs.{Messages.Kinds.{of_tree, lines_from}, Directories.PathnameCheck.directory_lines}
 use Rattle.ffs_volume.specs.{Directories.Volumes.volume_of, Blocks.Inodes.inodes_of}
 use Rattle.ffs_volume.specs.Costs.DirectoryReads.{directory_cost, noted_directories_cost, is_looked_at}
@@ -136,8 +136,7 @@ pub returns-in_err-note_places-clause-tree : goal.returns-in_err-note_places-cla
 returns-in_err-note_places-clause-tree g c =
     let v = c.args.geometry.now.layout in
     let noted = c.in_err-note_places.ensures in
-    let p = err_from_is_err_and c.from_residual.result c.from_residual.ensures.1 in
-    rw (p.1, p.2) (record {
+    rw (fails_with _ c.from_residual.ensures.1) (record {
       text = of_reads of_begins;
       reads = λ b k.
           let within = noted_all_within v b (v.ncg * v.ipg) in
@@ -162,9 +161,7 @@ returns-in_err-check_if_needed-clause-tree g c =
     let inv = c.loop-number.invariant in
     let n = c.loop-number.number in
     let said = c.in_err-check_if_needed.ensures.lines in
-    let p = err_from_is_err_and c.from_residual-in_err-check_if_needed.result
-    c.from_residual-in_err-check_if_needed.ensures.1 in
-    rw (p.1, p.2) (record {
+    rw (fails_with _ c.from_residual-in_err-check_if_needed.ensures.1) (record {
       text = of_fault (Unit {0}) (Unit {0}) _ _ _ _ _ _ _ _ c.in_err-check_if_needed.field-0.0 inv.said
           (λ b k. from_next (directory_lines (volume_of v b)) n (inodes_of v) (omega arith))
           (reports_knowing (Unit {0}) _ _ _ _ _ (Err c.in_err-check_if_needed.field-0.0) (next g at) said.text);

@@ -1,9 +1,9 @@
 use Rattle.std.proofs.Common.{◌≡◌, true, refl, sym, ap, ◌∙◌, ℕ, List, Err, length, arith}
-use Rattle.std.proofs.{lemmas.{Bool.both_ways, Result.{err_from_is_err_and, IfOk-weaker}}, Math.Nat.mul-le-mul_left}
+use Rattle.std.proofs.{lemmas.{Bool.both_ways, Result.IfOk-weaker}, Math.Nat.mul-le-mul_left}
 use Rattle.ffs_image.specs.Device.{Device}
 use Rattle.ffs_volume.specs.{declared.Layout.Layout, Report.Reads.line_reads, Directories.PathnameCheck.sized_dir_lines}
 use Rattle.ffs_volume.specs.Directories.{PathnameCheck.dir_header_lines, Roles.roled_entries, Volumes.volume_of}
-use Rattle.ffs_volume.specs.Costs.DirectoryReads.{directory_cost, directory_runs}
+use Rattle.ffs_volume.{specs.Costs.DirectoryReads.{directory_cost, directory_runs}, proofs.Results.fails_with}
 use Rattle.ffs_report.proofs.Reporting.{of_begins, of_part, of_fault, of_last}
 use Rattle.ffs_report.proofs.{Reporting.{said_knows, reports_knowing}, Paying.{paid_answer, paid_fault, paid_then}}
 use Rattle.ffs_workspace.specs.declared.workspace.Workspace.{Workspace}
@@ -54,8 +54,7 @@ returns-in_err-looked-clause-lines g c =
     let at = (goal.at.returns-in_err-looked-clause-lines g c).After-begin_directory in
     let begun = c.in_err-looked.ensures in
     let left = begun.leaves in
-    let p = err_from_is_err_and c.from_residual.result c.from_residual.ensures.1 in
-    rw (p.1, p.2) (record {
+    rw (fails_with _ c.from_residual.ensures.1) (record {
       text = of_fault FirstLook (Unit {0}) _ _ _ _ _ _ _ _ c.in_err-looked.field-0.0 of_begins
           (λ b k. lines_parts (volume_of c.args.geometry.now.layout b) c.args.dir _ refl)
           (reports_knowing FirstLook _ _ _ _ _ (Err c.in_err-looked.field-0.0) (λ b k. first k) begun.text);

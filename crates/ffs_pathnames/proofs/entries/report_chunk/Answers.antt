@@ -1,6 +1,5 @@
 use Rattle.std.proofs.Common.{refl, ap, ◌∙◌, ◌≡◌, ◌∷◌, arith, ℕ, List, [], map, Err}
-use Rattle.std.proofs.lemmas.Result.{err_from_is_err_and}
-use Rattle.ffs_volume.specs.{Directories.Volumes.volume_of, Messages.Kinds.of_tree}
+use Rattle.ffs_volume.{specs.{Directories.Volumes.volume_of, Messages.Kinds.of_tree}, proofs.Results.fails_with}
 use Rattle.ffs_layout.specs.Entry.{entry_value}
 use Rattle.ffs_report.proofs.Reporting.{of_begins, of_same, of_part, of_fault, said_knows, reports_knowing}
 use Rattle.ffs_report.proofs.Paying.{paid_none, paid_then}
@@ -62,8 +61,7 @@ returns-in_err-report_entry g c =
     let m = passed_of c.entries.workspace in
     let inv = c.entries.invariant in
     let lines = c.in_err-report_entry.ensures.lines in
-    let p = err_from_is_err_and c.from_residual.result c.from_residual.ensures.1 in
-    rw (p.1, p.2) (record {
+    rw (fails_with _ c.from_residual.ensures.1) (record {
       lines = record {
         text = of_fault (Unit {0}) (Unit {0}) _ _ _ _ _ _ _ _ c.in_err-report_entry.field-0.0 inv.said
             (λ b k. entry_reported (volume_of v b) x.dir m _ _ _ (next g at) refl)

@@ -1,8 +1,8 @@
 use Rattle.std.proofs.Common.{refl, sym, ap, subst, ◌∙◌, ◌≡◌, ◌≤◌, ◌+◌, ℕ, Some, List, [], ◌∷◌, map, Err, arith}
-use Rattle.std.{proofs.{lemmas.{Bool.both_ways, Result.err_from_is_err_and}}, specs.List.flat_map}
+use Rattle.std.{proofs.lemmas.Bool.both_ways, specs.List.flat_map}
 use Rattle.ffs_image.specs.Device.{Faulted}
 use Rattle.ffs_volume.{proofs.Numbered.as_many, specs.Directories.{Entries.{Chunk, chunk_of}, Roles.roled_chunk}}
-use Rattle.ffs_volume.specs.{Directories.Volumes.volume_of, Messages.Kinds.of_tree}
+use Rattle.ffs_volume.{specs.{Directories.Volumes.volume_of, Messages.Kinds.of_tree}, proofs.Results.fails_with}
 use Rattle.ffs_workspace.specs.{Leaves.LeavesSurvey, declared.workspace.Workspace.Workspace}
 use Rattle.ffs_workspace.proofs.Leaving.{leaves_all, leaves_more, windows_leave}
 use Rattle.ffs_names.{specs.{Readings.rest, Costs.{to_read, HoldsReading}}, proofs.DirCosts.runs_are}
@@ -167,8 +167,7 @@ returns-in_err-offset-clause-lines g c =
     let at = (goal.at.returns-in_err-offset-clause-lines g c).After-next_chunk in
     let inv = c.chunks.invariant in
     let read = c.in_err-offset.ensures in
-    let p = err_from_is_err_and c.from_residual.result c.from_residual.ensures.1 in
-    rw (p.1, p.2) (record {
+    rw (fails_with _ c.from_residual.ensures.1) (record {
       text = of_reads inv.said;
       reads = λ b k noted.
           let most = (read.takes.reads (inv.held b k noted) b (now g at b k) (enough g at b k)).most in
@@ -201,9 +200,7 @@ returns-in_err-report_chunk-clause-lines g c =
     (λ q. chunk_of q.layout.order c.in-Some.offset c.next_chunk.new.bytes ∷ rest b c.next_chunk.new.chunks) inv.geometry in
     let fault = c.in_err-report_chunk.field-0.0 in
     let lines = c.in_err-report_chunk.ensures.lines in
-    let p = err_from_is_err_and c.from_residual-in_err-report_chunk.result
-    c.from_residual-in_err-report_chunk.ensures.1 in
-    rw (p.1, p.2) (record {
+    rw (fails_with _ c.from_residual-in_err-report_chunk.ensures.1) (record {
       text = of_fault (Unit {0}) (Unit {0}) _ _ _ _ _ _ _ _ fault inv.said
           (λ b k. chunk_reported (volume_of v b) x.number m chunk _ _ (next b k) refl)
           (reports_knowing (Unit {0}) _ _ _ _ _ (Err fault)

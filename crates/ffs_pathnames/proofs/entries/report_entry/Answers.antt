@@ -1,5 +1,5 @@
-use Rattle.std.proofs.{Common.{ap, refl, ◌∙◌}, lemmas.{Result.err_from_is_err_and}}
-use Rattle.ffs_volume.specs.Directories.Volumes.{volume_of}
+use Rattle.std.proofs.Common.{ap, refl, ◌∙◌}
+use Rattle.ffs_volume.{specs.Directories.Volumes.volume_of, proofs.Results.fails_with}
 use Rattle.ffs_workspace.{specs.declared.workspace.Workspace.Workspace, proofs.Leaving.{claims_left, survey_left}}
 use Rattle.ffs_workspace.proofs.Leaving.{leaves_more, windows_leave}
 use Rattle.ffs_pathnames.{specs.Gathers.roled_value, proofs.{EntryReports.one_entry, Passing.passes, SeesLaws.sees}}
@@ -14,8 +14,7 @@ returns-in_err-report_by_role g c =
     let failed = c.in_err-report_by_role.ensures in
     let before = c.args.workspace.now in
     let here = c.report_by_role.new.workspace in
-    let p = err_from_is_err_and c.from_residual.result c.from_residual.ensures.1 in
-    rw (p.1, p.2) (record {
+    rw (fails_with _ c.from_residual.ensures.1) (record {
       lines = one_entry (passed_of before) (roled_value c.args.entry.now) failed.lines;
       passed = tt;
       leaves = record {

@@ -1,5 +1,5 @@
-use Rattle.std.proofs.{Common.{ap, arith, if◌then◌else◌, ◌∙◌}, lemmas.Result.{err_from_is_err_and, IfOk-weaker}}
-use Rattle.ffs_volume.specs.Report.Reads.{path_reads}
+use Rattle.std.proofs.{Common.{ap, arith, if◌then◌else◌, ◌∙◌}, lemmas.Result.IfOk-weaker}
+use Rattle.ffs_volume.{specs.Report.Reads.path_reads, proofs.Results.fails_with}
 use Rattle.ffs_workspace.proofs.Leaving.{windows_leave}
 use Rattle.ffs_paths.proofs.{Climbed.{few_more, few_then}, Keeping.reads_then, Sparing.on_all}
 use Rattle.ffs_pathnames.proofs.{LineCounts.places_on, Passing.knows_on, StampLaws.windows_keep}
@@ -9,8 +9,7 @@ use Rattle.ffs_pathnames.proofs.gather.gather_entry.Goals as goal
 pub returns-in_err-make_path_once : goal.returns-in_err-make_path_once
 returns-in_err-make_path_once g c =
     let made = c.in_err-make_path_once.ensures in
-    let p = err_from_is_err_and c.from_residual.result c.from_residual.ensures.1 in
-    rw (p.1, p.2) (record {
+    rw (fails_with _ c.from_residual.ensures.1) (record {
       enough = tt;
       path = made.makes.makes.path;
       once = begin_alone made tt;

@@ -1,5 +1,5 @@
-use Rattle.std.proofs.{Common.{ap, ◌∙◌, arith}, lemmas.Result.{err_from_is_err_and, IfOk-weaker}}
-use Rattle.ffs_volume.specs.Directories.{Naming.graph_of, Volumes.volume_of}
+use Rattle.std.proofs.{Common.{ap, ◌∙◌, arith}, lemmas.Result.IfOk-weaker}
+use Rattle.ffs_volume.{specs.Directories.{Naming.graph_of, Volumes.volume_of}, proofs.Results.fails_with}
 use Rattle.ffs_paths.proofs.Sparing.{on_all}
 use Rattle.ffs_pathnames.proofs.ReadyLaws.{gather_failed, leaves_read}
 use Rattle.ffs_pathnames.proofs.PathOnce.{begin_alone, begin_once}
@@ -8,8 +8,7 @@ use Rattle.ffs_pathnames.proofs.gather.gather_extra.Goals as goal
 pub returns-in_err-make_path_once : goal.returns-in_err-make_path_once
 returns-in_err-make_path_once g c =
     let made = c.in_err-make_path_once.ensures in
-    let p = err_from_is_err_and c.from_residual.result c.from_residual.ensures.1 in
-    rw (p.1, p.2) (record {
+    rw (fails_with _ c.from_residual.ensures.1) (record {
       attr = tt;
       text = tt;
       path = made.makes.makes.path;

@@ -1,8 +1,7 @@
 use Rattle.std.proofs.Common.{arith, ◌≡◌, refl, sym, ap, ◌∙◌, ℕ, List, map, ◌≤◌, length}
-use Rattle.std.proofs.lemmas.Result.{err_from_is_err_and}
 use Rattle.ffs_volume.specs.{Messages.Kinds.of_tree, Directories.{PathnameCheck.attributes, Naming.graph_of}}
 use Rattle.ffs_volume.specs.Directories.{PathnameCheck.header_lines, Paths.dir_path, Volumes.volume_of}
-use Rattle.ffs_volume.proofs.VerdictLaws.{header_silent, some_header}
+use Rattle.ffs_volume.proofs.{VerdictLaws.{header_silent, some_header}, Results.fails_with}
 use Rattle.ffs_report.proofs.Paying.{paid_none, paid_reads, paid_says, paid_stops}
 use Rattle.ffs_report.proofs.Reporting.{reads_first, says_all, says_none, stops_all}
 use Rattle.ffs_pathnames.specs.HeaderValues.{defects_value, facts_lines, KnowsHeader}
@@ -57,8 +56,7 @@ returns-in_err-put_path g c =
     let at = (goal.at.returns-in_err-put_path g c).After-put_path in
     let left = c.in_err-put_path.ensures.puts.leaves in
     let read = left.path.reads in
-    let p = err_from_is_err_and c.from_residual.result c.from_residual.ensures.1 in
-    rw (p.1, p.2) (record {
+    rw (fails_with _ c.from_residual.ensures.1) (record {
       text = reads_first;
       counted = λ b k noted. by_line _ (few_more (left.path.counted b (knows_places _ _ _ _ b k.0 noted)) (omega arith)) (some_line g at b);
       paid = let most = left.most in paid_reads (omega (arith, most));
@@ -70,8 +68,7 @@ returns-in_err-say_header g c =
     let at = goal.at.returns-in_err-say_header g c in
     let left = c.in_ok-put_path.ensures.puts.leaves in
     let read = left.path.reads in
-    let p = err_from_is_err_and c.from_residual-in_err-say_header.result c.from_residual-in_err-say_header.ensures.1 in
-    rw (p.1, p.2) (record {
+    rw (fails_with _ c.from_residual-in_err-say_header.ensures.1) (record {
       text = stops_all (lines_are g at.After-say_header) c.in_err-say_header.ensures;
       counted = λ b k noted. by_line _ (few_more (left.path.counted b (knows_places _ _ _ _ b k.0 noted)) (omega arith))
           (some_line g at.After-put_path b);

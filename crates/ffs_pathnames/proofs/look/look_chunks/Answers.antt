@@ -1,8 +1,8 @@
 use Rattle.std.proofs.Common.{◌≡◌, ◌<◌, ◌^◌, refl, sym, ap, subst, ◌∙◌, ℕ, List, ◌∷◌, Some, arith, ◌==◌, ◌||◌}
-use Rattle.std.{proofs.lemmas.Result.err_from_is_err_and, specs.List.{flat_map, find}}
+use Rattle.std.specs.List.{flat_map, find}
 use Rattle.ffs_image.specs.Device.{Faulted}
 use Rattle.ffs_volume.specs.{Blocks.Inodes.inode_of, Directories.{Entries.{Chunk, chunk_of}, Roles.roled_chunk}}
-use Rattle.ffs_volume.specs.Directories.{PathnameCheck.are_sound, Volumes.volume_of}
+use Rattle.ffs_volume.{specs.Directories.{PathnameCheck.are_sound, Volumes.volume_of}, proofs.Results.fails_with}
 use Rattle.ffs_workspace.specs.Holds.{HoldsBlockCheck, HoldsSurvey}
 use Rattle.ffs_names.{specs.Readings.{rest, gap_left}, proofs.{DirCosts.runs_are, DirLaws.{dir_is, dir_size}}}
 use Rattle.ffs_pathnames.specs.{PassedNames.{are_quiet, after_looks}, Stamps.stamps_of}
@@ -154,8 +154,7 @@ returns-in_err-offset g c =
     let w = c.args.workspace.now in
     let inv = c.chunks.invariant in
     let read = c.in_err-offset.ensures.leaves in
-    let p = err_from_is_err_and c.from_residual.result c.from_residual.ensures.1 in
-    rw (p.1, p.2) (record {
+    rw (fails_with _ c.from_residual.ensures.1) (record {
       looks = record {
         found = tt;
         leaves = record {
@@ -183,8 +182,7 @@ returns-in_err-gap g c =
     let inv = c.chunks.invariant in
     let read = c.in_ok-offset.ensures.leaves in
     let gap = c.in_err-gap.ensures.leaves in
-    let p = err_from_is_err_and c.from_residual-in_err-gap.result c.from_residual-in_err-gap.ensures.1 in
-    rw (p.1, p.2) (record {
+    rw (fails_with _ c.from_residual-in_err-gap.ensures.1) (record {
       looks = record {
         found = tt;
         leaves = record {

@@ -1,6 +1,6 @@
 use Rattle.std.proofs.Common.{◌≡◌, ◌≤◌, ◌++◌, ◌+◌, ◌*◌, Bool, slice_index, [], List, ℕ, map, refl, ap, sym, ◌∙◌, append-nil}
 use Rattle.std.proofs.Common.{true, false, arith, length, Result, Err, inl, inr, ◌∷◌, ◌==◌}
-use Rattle.std.proofs.lemmas.{Result.err_from_is_err_and, Bool.{both_ways, cases_Bool}}
+use Rattle.std.proofs.lemmas.Bool.{both_ways, cases_Bool}
 use Rattle.ffs_workspace.specs.Moments.{WorkMoment}
 use Rattle.ffs_workspace.specs.{Holds.HoldsBlockCheck, Ready.CanRead, declared.workspace.Workspace.Workspace}
 use Rattle.ffs_pathnames.proofs.Findings.{findings_kept}
@@ -14,6 +14,7 @@ use Rattle.ffs_volume.specs.{Encodings.Kinds.is_dir_kind, Directories.{Roles.Vol
 use Rattle.ffs_volume.specs.Messages.Kinds.{of_tree, TreeMessage, Message, of_directory, stops_check}
 use Rattle.ffs_volume.specs.{Directories.PathnameCheck.{continues_after_root, pathname_lines}, Report.Reads.line_reads}
 use Rattle.ffs_volume.specs.declared.{Layout.Layout, tree_lines.DirectoryLine.TheVariants.{RootNone, RootNotDir}}
+use Rattle.ffs_volume.proofs.Results.{fails_with}
 use Rattle.ffs_report.proofs.{Reporting.{of_begins, of_says, of_stops, of_part, of_fault}, Paying.paid_said}
 use Rattle.ffs_report.proofs.Paying.{paid_answer, paid_fault, paid_text, paid_then}
 use Rattle.ffs_image.specs.Known.{ForBytes}
@@ -55,9 +56,8 @@ returns-in-Stop-clause-root g c = λ b k.
 pub returns-in_err-check_directories-in-Go-clause-root : goal.returns-in_err-check_directories-in-Go-clause-root
 returns-in_err-check_directories-in-Go-clause-root g c =
     let at = (goal.at.returns-in_err-check_directories-in-Go-clause-root g c).After-report_root in
-    let p = err_from_is_err_and c.from_residual-in_err-check_directories-in-Go.result
-    c.from_residual-in_err-check_directories-in-Go.ensures.1 in
-    rw (p.1, p.2) (read_where_goes (g.I.Image.device c.args.image.now) c.in_err-check_directories-in-Go.field-0.0
+    rw (fails_with _ c.from_residual-in_err-check_directories-in-Go.ensures.1)
+    (read_where_goes (g.I.Image.device c.args.image.now) c.in_err-check_directories-in-Go.field-0.0
     (λ b k. sym (c.in-Go.ensures ∙ goes g at b k)))
 
 pub returns-in_ok-check_directories-in-Go-clause-root : goal.returns-in_ok-check_directories-in-Go-clause-root
@@ -81,8 +81,7 @@ only_said {w = w} r image ready text = let kept = findings_kept w in grind (arit
 pub returns-in_err-report_root-clause-tree : goal.returns-in_err-report_root-clause-tree
 returns-in_err-report_root-clause-tree g c =
     let at = (goal.at.returns-in_err-report_root-clause-tree g c).After-report_root in
-    let p = err_from_is_err_and c.from_residual.result c.from_residual.ensures.1 in
-    rw (p.1, p.2) (only_said _ refl c.requires (of_stops _ _ _ _ _ _ _ _ of_begins
+    rw (fails_with _ c.from_residual.ensures.1) (only_said _ refl c.requires (of_stops _ _ _ _ _ _ _ _ of_begins
     (λ b k. lines_are g at b _ k.block_check refl) c.in_err-report_root.ensures))
 
 pub returns-in-Stop-clause-tree : goal.returns-in-Stop-clause-tree
@@ -96,9 +95,7 @@ returns-in_err-check_directories-in-Go-clause-tree g c =
     let at = goal.at.returns-in_err-check_directories-in-Go-clause-tree g c in
     let tree = c.in_err-check_directories-in-Go.ensures.tree in
     let fault = c.in_err-check_directories-in-Go.field-0.0 in
-    let p = err_from_is_err_and c.from_residual-in_err-check_directories-in-Go.result
-    c.from_residual-in_err-check_directories-in-Go.ensures.1 in
-    rw (p.1, p.2) (record {
+    rw (fails_with _ c.from_residual-in_err-check_directories-in-Go.ensures.1) (record {
       text = of_fault (Unit {0}) (Unit {0}) _ _ _ (λ b. []) _ _ _ _ fault
           (of_says of_begins
           (λ b k. lines_are g at.After-report_root b true k.block_check c.in-Go.ensures) c.in_ok-report_root.ensures)

@@ -9,7 +9,7 @@ use Rattle.ffs_report.specs.{Progress.Said, declared.fault.RunFault.{RunFault, T
 use Rattle.ffs_report.proofs.Reports.{said_then}
 use Rattle.ffs_volume.specs.{Messages.Kinds.{phase2, Message, of_tree}, declared.Layout.Layout}
 use Rattle.ffs_volume.{proofs.RunBounds.runs_bounded, specs.Directories.PathnameCheck.pathname_lines}
-use Rattle.ffs_volume.specs.Directories.Volumes.{volume_of}
+use Rattle.ffs_volume.{specs.Directories.Volumes.volume_of, proofs.Results.fails_with}
 use Rattle.ffs_pathnames.specs.{declared.pass2.Root.{Root, TheVariants.{Go, Stop}}, Before.KnowsBefore, Phase2.Phase2Ends, RootAnswers.AnswersRoot}
 use Rattle.ffs_pathnames.{specs.RootAnswers.{SaidStop, is_go}, proofs.Carrying.{before_first, goes_is, references_on}}
 use Rattle.ffs_pathnames.proofs.{SilentLaws.calm_silent, pass2.phase2.{Given.Over, Goals.After-check_tree}}
@@ -89,20 +89,18 @@ stop_after v d d' old w a b c (Err fault) more heading stop = tt
 
 pub returns-in_err-say-clause-text : goal.returns-in_err-say-clause-text
 returns-in_err-say-clause-text g c =
-    let p = err_from_is_err_and c.from_residual.result c.from_residual.ensures.1 in
-    rw (p.1, p.2) (stops_heading c.in_err-say.ensures.said)
+    rw (fails_with _ c.from_residual.ensures.1) (stops_heading c.in_err-say.ensures.said)
 
 pub returns-in_err-say-clause-ends : goal.returns-in_err-say-clause-ends
-returns-in_err-say-clause-ends g c =
-    let p = err_from_is_err_and c.from_residual.result c.from_residual.ensures.1 in rw (p.1, p.2) (λ b k. k.1)
+returns-in_err-say-clause-ends g c = rw (fails_with _ c.from_residual.ensures.1) (λ b k. k.1)
 
 pub returns-in_err-survey-clause-ends : goal.returns-in_err-survey-clause-ends
 returns-in_err-survey-clause-ends g c = grind arith
 
 pub returns-in_err-survey-clause-text : goal.returns-in_err-survey-clause-text
 returns-in_err-survey-clause-text g c =
-    let p = err_from_is_err_and c.from_residual-in_err-survey.result c.from_residual-in_err-survey.ensures.1 in
-    rw (p.1, p.2) (of_reads (says_heading (λ b k. refl) c.in_ok-say.ensures.said))
+    rw (fails_with _ c.from_residual-in_err-survey.ensures.1)
+    (of_reads (says_heading (λ b k. refl) c.in_ok-say.ensures.said))
 
 pub returns-clause-text : goal.returns-clause-text
 returns-clause-text g c =
@@ -155,16 +153,13 @@ unmade_before old new again unmade = grind (arith, ap)
 
 pub returns-in_err-say-clause-surveyed : goal.returns-in_err-say-clause-surveyed
 returns-in_err-say-clause-surveyed g c =
-    let p = err_from_is_err_and c.from_residual.result c.from_residual.ensures.1 in
-    rw (p.1, p.2) (λ unmade. (unmade, λ b k. (refl, c.in_err-say.ensures.said)))
+    rw (fails_with _ c.from_residual.ensures.1) (λ unmade. (unmade, λ b k. (refl, c.in_err-say.ensures.said)))
 
 pub returns-in_err-survey-clause-surveyed : goal.returns-in_err-survey-clause-surveyed
-returns-in_err-survey-clause-surveyed g c =
-    let p = err_from_is_err_and c.from_residual-in_err-survey.result c.from_residual-in_err-survey.ensures.1 in
-    rw (p.1, p.2) (λ unmade. (
-      unmade_before c.args.workspace.now c.survey.new.workspace c.survey.ensures.again unmade,
-      λ b k. (refl, c.in_ok-say.ensures.said),
-    ))
+returns-in_err-survey-clause-surveyed g c = rw (fails_with _ c.from_residual-in_err-survey.ensures.1) (λ unmade. (
+  unmade_before c.args.workspace.now c.survey.new.workspace c.survey.ensures.again unmade,
+  λ b k. (refl, c.in_ok-say.ensures.said),
+))
 
 pub returns-clause-surveyed : goal.returns-clause-surveyed
 returns-clause-surveyed g c = λ unmade.
@@ -178,7 +173,7 @@ returns-clause-surveyed g c = λ unmade.
 -- what is held where something failed
 pub returns-in_err-say-clause-again : goal.returns-in_err-say-clause-again
 returns-in_err-say-clause-again g c =
-    rw (err_from_is_err_and c.from_residual.result c.from_residual.ensures.1).1 (λ e b k. k.1)
+    rw (fails_with _ c.from_residual.ensures.1) (λ e b k. k.1)
 
 pub returns-in_err-survey-clause-again : goal.returns-in_err-survey-clause-again
 returns-in_err-survey-clause-again g c =

@@ -1,5 +1,5 @@
-use Rattle.std.proofs.{Common.{ap, arith, refl, sym, subst}, lemmas.Result.err_from_is_err_and}
-use Rattle.ffs_volume.specs.Directories.{Naming.graph_of, Volumes.volume_of}
+use Rattle.std.proofs.Common.{ap, arith, refl, sym, subst}
+use Rattle.ffs_volume.{specs.Directories.{Naming.graph_of, Volumes.volume_of}, proofs.Results.fails_with}
 use Rattle.ffs_paths.specs.{Climbing.{IsNameIn, IsParentOf}, Reads.ForTree, KeptParents.IsKeptParent, NameTexts.name_bytes}
 use Rattle.ffs_paths.{specs.declared.kept_parent.KeptParent.KeptParent, proofs.WaysUp.kept_parent_is}
 use Rattle.ffs_paths.proofs.Sparing.{costs_name, keeps_child, spares_name}
@@ -36,8 +36,7 @@ returns-clause-costs g c =
 pub returns-in_err-find_name-clause-costs : goal.returns-in_err-find_name-clause-costs
 returns-in_err-find_name-clause-costs g c =
     let kept = c.in_ok-keep_path_of.ensures in
-    let p = err_from_is_err_and c.from_residual-in_err-find_name.result c.from_residual-in_err-find_name.ensures.1 in
-    rw (p.1, p.2) (costs_name c.requires.parent kept.keeps
+    rw (fails_with _ c.from_residual-in_err-find_name.ensures.1) (costs_name c.requires.parent kept.keeps
     (λ has. let e = kept.same has in (ap g.I.Image.reads e.0, e.1)) c.in_err-find_name.ensures.leaves tt tt)
 
 -- a read for the path of the parent failed
@@ -45,8 +44,7 @@ pub returns-in_err-keep_path_of-clause-costs : goal.returns-in_err-keep_path_of-
 returns-in_err-keep_path_of-clause-costs g c =
     let kept = c.in_err-keep_path_of.ensures.keeps in
     let same = c.in_err-keep_path_of.ensures.same in
-    let p = err_from_is_err_and c.from_residual.result c.from_residual.ensures.1 in
-    rw (p.1, p.2) (record {
+    rw (fails_with _ c.from_residual.ensures.1) (record {
       leaves = record {
         reads = kept.reads.reads;
         counted = λ b knows. few_more (kept.reads.counted b knows) (omega arith);
@@ -61,10 +59,10 @@ returns-in_err-keep_path_of-clause-costs g c =
 -- what is kept then
 pub returns-in_err-find_name-clause-still : goal.returns-in_err-find_name-clause-still
 returns-in_err-find_name-clause-still g c =
-    let p = err_from_is_err_and c.from_residual-in_err-find_name.result c.from_residual-in_err-find_name.ensures.1 in
     let kept = c.in_ok-keep_path_of.ensures.keeps.kept_parent in
     let read = c.in_err-find_name.ensures.leaves.reads in
-    rw p.1 (kept_parent_held _ _ _ _ _ _ read.read.contents read.lists (record {
+    rw (fails_with _ c.from_residual-in_err-find_name.ensures.1)
+    (kept_parent_held _ _ _ _ _ _ read.read.contents read.lists (record {
       right = λ b t claims survey. record {
         path = (kept.right b t claims survey).path;
         parent = λ some. absurd (omega arith);
