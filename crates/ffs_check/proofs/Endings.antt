@@ -2,20 +2,19 @@
 use Rattle.std.proofs.Common.{arith, IfOk, ◌≡◌, inl, inr, refl, ◌∙◌, sym, ap, subst, ℕ, Bool, false, true, not, ◌&&◌}
 use Rattle.std.proofs.Common.{◌||◌, ◌++◌, ◌<◌, length, append-nil, List, [], Option, Some, None, Result, Ok, Err}
 use Rattle.std.proofs.Math.Bool.{or_assoc}
-use Rattle.ffs_image.specs.Device.{Faulted}
+use Rattle.ffs_image.specs.{Device.Faulted, Known.{ForBytes, IsContents}}
 use Rattle.ffs_volume.specs.{declared.End.{End, TheVariants.{ReadFault, WriteFault}}, Disk.Superblock.Superblock}
 use Rattle.ffs_volume.specs.Messages.{Kinds.{Message, cannot_read, has_defect, is_defect, unless}, Texts.texts_of}
 use Rattle.ffs_volume.specs.Report.Opening.{has_valid_minfree, has_valid_optim, setting_lines, super_lines}
-use Rattle.ffs_volume.specs.Directories.{PathnameCheck.continues_after_root, Volumes.volume_of}
-use Rattle.ffs_volume.specs.Report.Whole.{end_by, phase_lines}
-use Rattle.ffs_report.specs.{PhaseOutcome.ImageAfter, Progress.{Progress, Said, Stopped}}
-use Rattle.ffs_image.specs.Known.{ForBytes, IsContents}
-use Rattle.ffs_report.{specs.Sink.Took, proofs.Reports.has_defect-append}
-use Rattle.ffs_report.specs.declared.fault.RunFault.{RunFault, TheVariants.{Read, Out}}
+use Rattle.ffs_volume.specs.{Directories.{PathnameCheck.continues_after_root, Volumes.volume_of}, Report.Whole.end_by}
+use Rattle.ffs_volume.specs.Report.Whole.{phase_lines}
+use Rattle.ffs_report.specs.{PhaseOutcome.ImageAfter, Progress.{Progress, Said, Stopped}, Sink.Took}
+use Rattle.ffs_report.{proofs.Reports.has_defect-append, specs.declared.fault.RunFault.{RunFault, TheVariants.Read}}
+use Rattle.ffs_report.specs.declared.fault.RunFault.TheVariants.{Out}
 use Rattle.ffs_pathnames.specs.{declared.pass2.Root.Root, RootAnswers.is_go}
-use Rattle.ffs_check.specs.{Moment.{Moment, ReportMoment, at_output}, Opening.IsWorkingAfter}
-use Rattle.ffs_check.specs.AllPhases.{MakesEnd, EndsAfterPhases, ReportsAllPhases, SaysReadFault}
-use Rattle.ffs_check.proofs.EndLaws.{broke_more, broke_off, ends_known, line_after}
+use Rattle.ffs_check.specs.{Moment.{Moment, ReportMoment, at_output}, Opening.IsWorkingAfter, AllPhases.MakesEnd}
+use Rattle.ffs_check.{specs.AllPhases.{EndsAfterPhases, ReportsAllPhases, SaysReadFault}, proofs.EndLaws.broke_more}
+use Rattle.ffs_check.proofs.EndLaws.{broke_off, ends_known, line_after}
 
 -- what an image's bytes determine, and nothing for an image that doesn't give them
 abbrev pub at_contents : Option (List ℕ) → (List ℕ → List Message) → List Message

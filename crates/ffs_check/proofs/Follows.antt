@@ -1,22 +1,21 @@
 -- The headline, of a check after an accepted superblock.
 use Rattle.std.proofs.Common.{arith, ◌≡◌, inl, inr, refl, ◌∙◌, sym, ap, subst, ℕ, Bool, true, false, not, List, [], ◌∷◌}
 use Rattle.std.proofs.Common.{◌++◌, append_assoc, IfSome, None, Option, Some, Ok}
-use Rattle.ffs_image.{specs.Device.{Device, ForContents}, proofs.Devices.faulted_there}
+use Rattle.ffs_image.{specs.{Device.{Device, ForContents}, Known.IsContents}, proofs.Devices.faulted_there}
 use Rattle.ffs_volume.specs.declared.{SuperFault.SuperFault, End.{End, TheVariants.{Refused, ReadFault, NoMemory}}}
 use Rattle.ffs_volume.specs.{Disk.{Superblock.Superblock, Outcome.outcome}, Report.Opening.{head_lines, opening_lines}}
 use Rattle.ffs_volume.specs.{Report.Opening.super_lines, Messages.Kinds.{Message, cannot_read, cannot_alloc}}
 use Rattle.ffs_volume.specs.{Messages.{Kinds.{has_defect, stops_at_last}, Texts.texts_of}, Report.Whole.phase_lines}
-use Rattle.ffs_volume.specs.Report.Whole.{end_by, report_of, report_end, EndAgrees}
+use Rattle.ffs_volume.specs.Report.{Whole.{end_by, report_of, report_end, EndAgrees}, Headings.headings_before}
 use Rattle.ffs_report.specs.{Sink.Took, Progress.Progress}
-use Rattle.ffs_image.specs.Known.{IsContents}
 use Rattle.ffs_layout.specs.{declared.superblock.Super.Super, Super.{ReadsSuper, superblock_in}}
 use Rattle.ffs_check.specs.{Ends.Cut, Headline.{Headline, IsCutOfReport, IsEndOfReport}, Moment.{Moment, ReportMoment}}
-use Rattle.ffs_volume.specs.Report.Headings.{headings_before}
-use Rattle.ffs_check.{specs.Headings.{TookSections}, proofs.Sections.{HeadingsOfCheck, HeadingsWentOut}}
-use Rattle.ffs_check.specs.{Moment.at_output, Opening.OpeningOf, AllPhases.{IsCutByRead, IsEndByRoot, LastStops}}
-use Rattle.ffs_check.{specs.AllPhases.{SaysNoMemory, SaysRest}, proofs.Openings.{found_of, no_defect_head, unfailed_of}}
-use Rattle.ffs_check.proofs.{Endings.{at_contents, at_known}, EndLaws.{cut_after, ends_after, line_after, took_messages}}
-use Rattle.ffs_check.proofs.Headlines.{whole_there, defect_there, end_of_there, end_there, certifies, last_says}
+use Rattle.ffs_check.{specs.{Moment.at_output, Headings.TookSections}, proofs.Sections.HeadingsOfCheck}
+use Rattle.ffs_check.{proofs.Sections.HeadingsWentOut, specs.{Opening.OpeningOf, AllPhases.{IsCutByRead, IsEndByRoot}}}
+use Rattle.ffs_check.{specs.AllPhases.{LastStops, SaysNoMemory, SaysRest}, proofs.Openings.{found_of, no_defect_head}}
+use Rattle.ffs_check.proofs.{Openings.unfailed_of, Endings.{at_contents, at_known}, EndLaws.{cut_after, ends_after}}
+use Rattle.ffs_check.proofs.{EndLaws.{line_after, took_messages}, Headlines.{whole_there, defect_there, end_of_there}}
+use Rattle.ffs_check.proofs.Headlines.{end_there, certifies, last_says}
 
 -- the end that the root and a text's defects make agrees with that text
 agrees_by : (name : List ℕ) (sector : Option ℕ) (text : List Message) (continued defect : Bool) →

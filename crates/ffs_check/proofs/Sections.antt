@@ -1,17 +1,15 @@
 -- The sections of a check's text, phase by phase.
-use Rattle.std.proofs.Common.{arith, ◌≡◌, refl, ◌∙◌, sym, ap, subst, Bool, true, false, List, [], ◌∷◌, ◌++◌, append_assoc}
-use Rattle.std.proofs.Common.{append-nil, ◌||◌, Option, Some, None, IfSome, Result, Ok, Err, inl, inr, ℕ}
+use Rattle.std.proofs.Common.{arith, ◌≡◌, refl, ◌∙◌, sym, ap, subst, Bool, true, false, List, [], ◌∷◌, ◌++◌}
+use Rattle.std.proofs.Common.{append_assoc, append-nil, ◌||◌, Option, Some, None, IfSome, Result, Ok, Err, inl, inr, ℕ}
 use Rattle.ffs_image.specs.Device.{Device}
-use Rattle.ffs_volume.specs.{Disk.Superblock.Superblock, Report.Opening.opening_lines}
-use Rattle.ffs_report.specs.Sink.{Sink}
-use Rattle.ffs_volume.specs.{declared.End.End, Report.Whole.end_by, Messages.Kinds.{Message, cannot_read, phase1, phase2}}
-use Rattle.ffs_report.specs.{PhaseOutcome.{HeadingFirst, ImageAfter, PhaseReports}, Progress.{Progress, Said, Says}}
-use Rattle.ffs_report.specs.declared.fault.RunFault.{RunFault, TheVariants.{Read, Out}}
+use Rattle.ffs_volume.specs.{Disk.Superblock.Superblock, Report.{Opening.opening_lines, Whole.end_by}, declared.End.End}
+use Rattle.ffs_volume.specs.{Messages.Kinds.{Message, cannot_read, phase1, phase2}, Report.Headings.HasSections}
+use Rattle.ffs_volume.specs.Report.Headings.{all_headings, headings_before}
+use Rattle.ffs_report.specs.{Sink.Sink, PhaseOutcome.{HeadingFirst, ImageAfter, PhaseReports}, Progress.Progress}
+use Rattle.ffs_report.specs.{Progress.{Said, Says}, declared.fault.RunFault.{RunFault, TheVariants.{Read, Out}}}
 use Rattle.ffs_report.proofs.Reports.{said_none, said_then, stopped_after}
 use Rattle.ffs_pathnames.specs.declared.pass2.Root.{Root, TheVariants.{Go, Stop}}
-use Rattle.ffs_volume.specs.Report.Headings.{HasSections, all_headings, headings_before}
-use Rattle.ffs_check.specs.Headings.{TookSections}
-use Rattle.ffs_check.{specs.AllPhases.{MakesEnd, SaysSections}, proofs.EndLaws.took_messages}
+use Rattle.ffs_check.{specs.{Headings.TookSections, AllPhases.{MakesEnd, SaysSections}}, proofs.EndLaws.took_messages}
 
 -- ---- a text and its sections
 -- a further section

@@ -1,42 +1,37 @@
 -- One phase after another: for each phase a lemma on the stage that it leaves, and one on a fault in it.
 use Rattle.std.proofs.Common.{◌≡◌, ◌<◌, ◌≤◌, ◌+◌, ◌*◌, ◌∙◌, sym, ap, ℕ, List, [], ◌∷◌, ◌++◌, length, append_assoc}
-use Rattle.std.proofs.Common.{append-nil, arith, refl, Bool, true, false, not, Ok, Err, inl, inr, map}
-use Rattle.std.proofs.{Common.{subst, OnErr, OnOk, None, Result}, lemmas.Result.on_err_weaker}
-use Rattle.ffs_image.specs.Device.{Device}
-use Rattle.ffs_volume.specs.{Disk.Superblock.Superblock, Directories.Volumes.volume_of}
-use Rattle.ffs_volume.specs.{Messages.Kinds.{Message}}
+use Rattle.std.proofs.Common.{append-nil, arith, refl, Bool, true, false, not, Ok, Err, inl, inr, map, subst, OnErr}
+use Rattle.std.proofs.{Common.{OnOk, None, Result}, lemmas.Result.on_err_weaker}
+use Rattle.ffs_image.specs.{Device.Device, Known.ForBytes}
+use Rattle.ffs_volume.specs.{Disk.Superblock.Superblock, Directories.Volumes.volume_of, Messages.Kinds.Message}
 use Rattle.ffs_volume.specs.{Messages.Kinds.{of_tree, phase2, phase3, phase4, phase5}, Report.Memory.runs_limit}
 use Rattle.ffs_volume.specs.Directories.{Connectivity.connectivity_lines, ReferenceCheck.reference_lines}
-use Rattle.ffs_volume.specs.Directories.PathnameCheck.{continues_after_root, pathname_lines}
-use Rattle.ffs_volume.specs.Report.{Reads.{group_reads, line_reads, sweep_reads}, Whole.phase_lines}
-use Rattle.ffs_volume.specs.{Report.Whole.{summary_of, file_count, claimed_count}}
-use Rattle.ffs_volume.specs.{Laws.Geometry.IsAcceptedLayout, Costs.VolumeReads.later_reads}
-use Rattle.ffs_report.specs.{Progress.{Progress}, Paid.Paid}
-use Rattle.ffs_image.specs.Known.{ForBytes}
-use Rattle.ffs_report.specs.{PhaseOutcome.{ImageAfter}, declared.fault.RunFault.RunFault}
+use Rattle.ffs_volume.specs.{Directories.PathnameCheck.{continues_after_root, pathname_lines}, Report.Reads.group_reads}
+use Rattle.ffs_volume.specs.Report.{Reads.{line_reads, sweep_reads}, Whole.{phase_lines, summary_of, file_count}}
+use Rattle.ffs_volume.specs.Report.Whole.{claimed_count, phase1_messages, phase1b_messages_if_dups, phase2_messages}
+use Rattle.ffs_volume.specs.Report.Whole.{phase3_messages, phase4_messages, phase5_messages, summary_messages}
+use Rattle.ffs_volume.{specs.{Laws.Geometry.IsAcceptedLayout, Costs.VolumeReads.later_reads}, proofs.Results.at_error}
+use Rattle.ffs_volume.proofs.Results.{on_any}
+use Rattle.ffs_report.specs.{Progress.Progress, Paid.Paid, PhaseOutcome.ImageAfter, declared.fault.RunFault.RunFault}
 use Rattle.ffs_report.{specs.declared.fault.RunFault.TheVariants.{Read, Out}, proofs.Reporting.{of_begins, of_says}}
 use Rattle.ffs_report.proofs.{Reporting.{of_part, of_fault, said_knows, reports_knowing}, Paying.paid_answer}
 use Rattle.ffs_report.proofs.Paying.{paid_fault, paid_none, paid_then, paid_within}
-use Rattle.ffs_volume.proofs.Results.{at_error, on_any}
-use Rattle.ffs_check.specs.{AllPhases.{HaveRun, AnswersAfterPhases, SaidWhole}}
-use Rattle.ffs_volume.specs.Report.Whole.{phase1_messages, phase1b_messages_if_dups, phase2_messages, phase3_messages, phase4_messages, phase5_messages}
-use Rattle.ffs_volume.specs.Report.Whole.{summary_messages}
-use Rattle.ffs_check.proofs.RestOfText.{from_phase2, after_phase2}
-use Rattle.ffs_check.specs.Rescan.{AnswersDups, RescanLeaves, RescanReadsWithin, WithLeftByPhase1}
-use Rattle.ffs_check.{proofs.Answering.{answers_stay, unanswered}, specs.Reads.{PhasesPay}}
-use Rattle.ffs_check.proofs.VolumeReading.{text_parts}
+use Rattle.ffs_check.{specs.AllPhases.{HaveRun, AnswersAfterPhases, SaidWhole}, proofs.RestOfText.from_phase2}
+use Rattle.ffs_check.{proofs.RestOfText.after_phase2, specs.Rescan.{AnswersDups, RescanLeaves, RescanReadsWithin}}
+use Rattle.ffs_check.{specs.{Rescan.WithLeftByPhase1, Reads.PhasesPay}, proofs.Answering.{answers_stay, unanswered}}
+use Rattle.ffs_check.proofs.{VolumeReading.text_parts, Stages.{some_more, more_after, root_or_more, Left, each, Point}}
+use Rattle.ffs_check.proofs.Stages.{Given, Stage, report_at, RunsPhases, Spends, Ran, begun, phase1_done, phase1b_done}
+use Rattle.ffs_check.proofs.Stages.{Rooted, phase2_done, phase3_done, phase4_done, phase5_done, root_stays}
+use Rattle.ffs_check.proofs.Stages.{windows_stay, with_ok, spends_left, spends_lines, IsClaimed, spends_names}
+use Rattle.ffs_check.proofs.Stages.{spends_knowing, within_both, whole_said}
 use Rattle.ffs_counts.specs.Summary.{SaysSummary}
 use Rattle.ffs_claims.specs.Phases.{IsLeftByPhase1, Phase1Keeps, Phase1Reads}
-use Rattle.ffs_pathnames.specs.{declared.pass2.Root.{Root, TheVariants.{Go, Stop}}, Phase2.{Phase2Ends, Phase2Reads}, RootAnswers.is_go}
+use Rattle.ffs_pathnames.specs.{declared.pass2.Root.{Root, TheVariants.{Go, Stop}}, Phase2.{Phase2Ends, Phase2Reads}}
+use Rattle.ffs_pathnames.specs.RootAnswers.{is_go}
 use Rattle.ffs_workspace.specs.{declared.workspace.Workspace.Workspace, Leaves.{LeavesBlockCheck, LeavesSurvey}}
 use Rattle.ffs_workspace.specs.{Ready.IsReady, Found.{WithFresh, WithBlockCheck, WithSurvey, WithFindings}}
-use Rattle.ffs_workspace.specs.Holds.{HoldsBlockCheck, HoldsFindings}
-use Rattle.ffs_workspace.proofs.Leaving.{claims_left, findings_held, references_left, survey_left}
-use Rattle.ffs_check.proofs.Stages.{some_more, more_after, root_or_more, Left, each, Point, Given, Stage, report_at}
-use Rattle.ffs_check.proofs.Stages.{RunsPhases, Spends, Ran, begun, phase1_done, phase1b_done, Rooted, phase2_done}
-use Rattle.ffs_check.proofs.Stages.{phase3_done, phase4_done, phase5_done, root_stays, windows_stay}
-use Rattle.ffs_check.proofs.Stages.{with_ok, spends_left, spends_lines, IsClaimed, spends_names}
-use Rattle.ffs_check.proofs.Stages.{spends_knowing, within_both, whole_said}
+use Rattle.ffs_workspace.{specs.Holds.{HoldsBlockCheck, HoldsFindings}, proofs.Leaving.{claims_left, findings_held}}
+use Rattle.ffs_workspace.proofs.Leaving.{references_left, survey_left}
 
 -- the next point, or the end of all where a phase answers a fault
 abbrev Comes : {T : Type 0} → Result T RunFault → (T → Type 0) → (RunFault → Type 0) → Type 0

@@ -4,24 +4,21 @@
 -- specs/Lib.antt of ffs_report.
 use Rattle.std.specs.Prelude.{◌≡◌, ◌⊎◌, ◌<◌, ◌≤◌, ℕ, Bool, false, true, not, ◌||◌, List, [], ◌∷◌, ◌++◌, length, Result}
 use Rattle.std.specs.Prelude.{Ok, Err, IfOk, IfSome, is_ok}
-use Rattle.ffs_image.specs.Device.{Device, Faulted}
+use Rattle.ffs_image.specs.{Device.{Device, Faulted}, Known.{ForBytes, IsContents}}
 use Rattle.ffs_volume.specs.declared.End.{End, TheVariants.{Consistent, Defects, Refused, RootStop, ReadFault}}
 use Rattle.ffs_volume.specs.{declared.End.TheVariants.{WriteFault, NoMemory}, Disk.Superblock.Superblock}
 use Rattle.ffs_volume.specs.{Directories.{PathnameCheck.continues_after_root, Volumes.volume_of}, Report.Whole.end_by}
 use Rattle.ffs_volume.specs.{Report.Whole.phase_lines, Messages.Kinds.{Message, cannot_alloc, cannot_read, has_defect}}
-use Rattle.ffs_volume.specs.{Messages.Kinds.{phase1, phase2, stops_check}, Report.{Memory.{runs_limit, held_of}, Opening.super_lines}}
-use Rattle.ffs_volume.specs.declared.Layout.{Layout}
-use Rattle.ffs_report.specs.PhaseOutcome.{FirstMessages, ImageAfter, SaidOf, SaysThenReads}
-use Rattle.ffs_image.specs.Known.{ForBytes, IsContents}
-use Rattle.ffs_report.specs.{Progress.{Progress, Said, Stopped}, declared.fault.RunFault.{RunFault, TheVariants.Read}}
-use Rattle.ffs_report.specs.declared.fault.RunFault.TheVariants.{Out}
+use Rattle.ffs_volume.specs.{Messages.Kinds.{phase1, phase2, stops_check}, Report.Memory.{runs_limit, held_of}}
+use Rattle.ffs_volume.specs.{Report.{Opening.super_lines, Headings.{HasSections, all_headings}}, declared.Layout.Layout}
+use Rattle.ffs_volume.specs.Report.Headings.{headings_before}
+use Rattle.ffs_report.specs.{PhaseOutcome.{FirstMessages, ImageAfter, SaidOf, SaysThenReads}, Progress.{Progress, Said}}
+use Rattle.ffs_report.specs.{Progress.Stopped, declared.fault.RunFault.{RunFault, TheVariants.{Read, Out}}}
 use Rattle.ffs_pathnames.specs.{declared.pass2.Root.{Root, TheVariants.{Go, Stop}}, RootAnswers.is_go}
 use Rattle.ffs_memory.specs.Account.{Account}
 use Rattle.ffs_workspace.specs.{declared.workspace.Workspace.Workspace, Found.WithFresh, Holds.HoldsFindings}
 use Rattle.ffs_workspace.specs.{Lengths.IsFor, Ready.IsReady}
-use Rattle.ffs_check.specs.{Ends.{Cut, Ends}, Headings.TookSections, Reads.PhasesRead}
-use Rattle.ffs_volume.specs.Report.Headings.{HasSections, all_headings, headings_before}
-use Rattle.ffs_check.specs.Rescan.{AnswersDups, HasAnswers}
+use Rattle.ffs_check.specs.{Ends.{Cut, Ends}, Headings.TookSections, Reads.PhasesRead, Rescan.{AnswersDups, HasAnswers}}
 use Rattle.ffs_check.specs.{Moment.{Moment, ReportMoment, at_output}, Taken.TakesBytes}
 
 -- a read failed before the text was complete: whole messages were said, and others were to come

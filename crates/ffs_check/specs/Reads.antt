@@ -1,13 +1,12 @@
 -- How often a check reads its image at most: one that gives its bytes, and any image, also one that gives
 -- other bytes each time, by the messages that went out, whole or in part.
 use Rattle.std.specs.Prelude.{◌≡◌, ◌⊎◌, ◌≤◌, ◌+◌, ◌++◌, ℕ, List, length, Option, Result, Ok, Err}
-use Rattle.ffs_image.specs.Device.{ForContents}
+use Rattle.ffs_image.specs.{Device.ForContents, Known.ForBytes}
 use Rattle.ffs_volume.specs.{declared.SuperFault.SuperFault, Disk.{Outcome.outcome, Superblock.Superblock}}
 use Rattle.ffs_volume.specs.{Messages.{Kinds.Message, Texts.texts_of}, Costs.VolumeReads.volume_phase_reads}
 use Rattle.ffs_volume.specs.Report.{Reads.{line_reads, opening_reads, phase_reads, reads_limit}, Whole.phase_lines}
 use Rattle.ffs_volume.specs.Report.Whole.{report_of}
 use Rattle.ffs_report.specs.{Paid.Paid, Sink.Took, declared.fault.RunFault.RunFault}
-use Rattle.ffs_image.specs.Known.{ForBytes}
 use Rattle.ffs_check.specs.{Ends.BrokeOffAfter, Moment.{Moment, ReportMoment}}
 
 -- the phases read the image at most as often as the layout allows, and as what the volume holds does

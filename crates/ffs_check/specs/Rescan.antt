@@ -1,14 +1,11 @@
 -- The rescan, which is phase 1b where phase 1 has a DUP line: what is known of the image's bytes before it, what it
 -- leaves and reads, and what a workspace answers then.
 use Rattle.std.specs.Prelude.{ℕ, ◌≡◌, ◌⊎◌, ◌≤◌, ◌+◌, false, if◌then◌else◌, List, Result, OnOk}
-use Rattle.ffs_image.specs.Device.{Device}
+use Rattle.ffs_image.specs.{Device.Device, Known.{ForBytes, IsContents}}
 use Rattle.ffs_report.specs.declared.fault.RunFault.{RunFault}
-use Rattle.ffs_image.specs.Known.{ForBytes, IsContents}
-use Rattle.ffs_volume.specs.{declared.Layout.Layout, Blocks.Owners.owners_of}
-use Rattle.ffs_volume.specs.Blocks.BlockCheck.{has_dup_lines}
-use Rattle.ffs_volume.specs.Costs.RescanRuns.{rescan_runs}
-use Rattle.ffs_volume.specs.{Report.Reads.sweep_reads}
-use Rattle.ffs_volume.specs.{Report.Whole.run_count, Costs.VolumeReads.rescan_reads}
+use Rattle.ffs_volume.specs.{declared.Layout.Layout, Blocks.{Owners.owners_of, BlockCheck.has_dup_lines}}
+use Rattle.ffs_volume.specs.{Costs.RescanRuns.rescan_runs, Report.{Reads.sweep_reads, Whole.run_count}}
+use Rattle.ffs_volume.specs.Costs.VolumeReads.{rescan_reads}
 use Rattle.ffs_workspace.specs.{declared.workspace.Workspace.Workspace, Holds.HoldsBlockCheck, Ready.IsReady}
 use Rattle.ffs_claims.specs.Phases.{IsLeftByPhase1}
 

@@ -1,17 +1,16 @@
 -- What the lines of phase 1 say: which inodes they blame, and whether there is a Dup line.
 use Rattle.std.proofs.Common.{◌≡◌, inl, inr, ℕ, zero, suc, ◌+◌, ◌<◌, ◌≤◌, Bool, true, false, not, ◌&&◌, ◌||◌, ◌==◌}
 use Rattle.std.proofs.Common.{if◌then◌else◌, List, [], ◌∷◌, ◌++◌, length, replicate, slice_set, length-set, ◌≢◌, arith}
-use Rattle.std.proofs.{Common.{refl, ap, ◌∙◌, ◌-◌, nat_lt, nat_le, map}}
-use Rattle.std.proofs.{Math.ListN.get_or-eq_default, lemmas.Bool.{cases_lt, Decides.nat_tests}}
-use Rattle.std.{proofs.lemmas.List.{length-replicate, Folds.list_any-append, Sums.sum_by-set}, specs.List.list_any}
-use Rattle.std.specs.List.{range_with_len}
+use Rattle.std.proofs.{Common.{refl, ap, ◌∙◌, ◌-◌, nat_lt, nat_le, map}, Math.ListN.get_or-eq_default}
+use Rattle.std.proofs.lemmas.{Bool.{cases_lt, Decides.nat_tests}, List.{length-replicate, Folds.list_any-append}}
+use Rattle.std.{proofs.lemmas.List.Sums.sum_by-set, specs.List.{list_any, range_with_len}}
 use Rattle.ffs_volume.proofs.{OwnerLaws.before_next, Potentials.{cond_holds, in_range_below}}
 use Rattle.ffs_volume.specs.Blocks.BlockCheck.{class_lines, owner_lines, lines_of_owners, phase1_lines, phase1b_lines}
-use Rattle.ffs_volume.specs.Blocks.BlockCheck.{is_dup_line, has_dup_lines, blames, first_offer_lines, is_marked, set_count}
-use Rattle.ffs_volume.specs.Blocks.Claims.{Claims, no_claims, at_next_inode, is_open, is_set, after_owner, after_owners}
-use Rattle.ffs_volume.specs.Blocks.Claims.{lines_of_steps, after_offer, after_offers, after_run, after_step, all_claims}
-use Rattle.ffs_volume.specs.Blocks.Claims.{after_steps, offer_lines, lines_of_offers, run_lines, step_lines, has_blame}
-use Rattle.ffs_volume.specs.Blocks.Inodes.{is_file_or_dir, inodes_of}
+use Rattle.ffs_volume.specs.Blocks.BlockCheck.{is_dup_line, has_dup_lines, blames, first_offer_lines, is_marked}
+use Rattle.ffs_volume.specs.Blocks.{BlockCheck.set_count, Claims.{Claims, no_claims, at_next_inode, is_open, is_set}}
+use Rattle.ffs_volume.specs.Blocks.Claims.{after_owner, after_owners, lines_of_steps, after_offer, after_offers}
+use Rattle.ffs_volume.specs.Blocks.Claims.{after_run, after_step, all_claims, after_steps, offer_lines, lines_of_offers}
+use Rattle.ffs_volume.specs.Blocks.{Claims.{run_lines, step_lines, has_blame}, Inodes.{is_file_or_dir, inodes_of}}
 use Rattle.ffs_volume.specs.Blocks.{KeptOffers.Offer, KeptSteps.claims_before, Owners.{Owner, owners_of, owner_of}}
 use Rattle.ffs_volume.specs.Directories.Volumes.{is_inode_number, marked_at, marked_by_phase1_at}
 use Rattle.ffs_volume.specs.{Disk.Areas.{is_fragment_in_range, is_run_in_range}, declared.BlockMessage.BlockMessage}

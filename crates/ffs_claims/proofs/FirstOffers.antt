@@ -1,19 +1,17 @@
 -- Each fragment with a DUP line has a kept offer, so that none is left to report once all were gone over.
-use Rattle.std.proofs.Common.{◌≡◌, inl, inr, ℕ, suc, ◌+◌, ◌==◌, Bool, true, false, ◌||◌, if◌then◌else◌, List}
-use Rattle.std.proofs.Common.{[], ◌∷◌, ◌++◌, length, length-set, slice_set, nat_lt, arith, refl, ap, ◌∙◌}
+use Rattle.std.proofs.Common.{◌≡◌, inl, inr, ℕ, suc, ◌+◌, ◌==◌, Bool, true, false, ◌||◌, if◌then◌else◌, List, [], ◌∷◌}
+use Rattle.std.proofs.Common.{◌++◌, length, length-set, slice_set, nat_lt, arith, refl, ap, ◌∙◌}
 use Rattle.std.proofs.{Math.ListN.get_or-eq_default, lemmas.Bool.{cases_Bool, cases_eq, cases_lt, Decides.nat_tests}}
-use Rattle.std.proofs.lemmas.List.{get_or-set_other, get_or-set_same, Folds.list_any-append}
-use Rattle.std.specs.List.{list_any, range_with_len}
-use Rattle.ffs_volume.specs.Blocks.{BlockCheck.{after_first, set_count}, Owners.{Owner, owners_of}}
-use Rattle.ffs_volume.specs.Blocks.Claims.{Claims, after_offer, after_offers, after_owner, after_owners, after_run}
-use Rattle.ffs_volume.specs.Blocks.Claims.{after_step, after_steps, all_claims, at_next_inode, is_set, no_claims}
+use Rattle.std.{proofs.lemmas.List.{get_or-set_other, get_or-set_same, Folds.list_any-append}, specs.List.list_any}
+use Rattle.std.specs.List.{range_with_len}
+use Rattle.ffs_volume.specs.Blocks.{BlockCheck.{after_first, set_count}, Owners.{Owner, owners_of}, Claims.Claims}
+use Rattle.ffs_volume.specs.Blocks.Claims.{after_offer, after_offers, after_owner, after_owners, after_run, after_step}
+use Rattle.ffs_volume.specs.Blocks.Claims.{after_steps, all_claims, at_next_inode, is_set, no_claims}
 use Rattle.ffs_volume.specs.Blocks.KeptOffers.{Offer, kept_in_offers, kept_in_owners, kept_in_run, kept_in_step}
-use Rattle.ffs_volume.specs.Blocks.KeptOffers.{kept_in_steps, offer_of}
-use Rattle.ffs_volume.specs.{declared.{Layout.Layout, Step.{Step, TheVariants.{Run}}}}
-use Rattle.ffs_volume.proofs.Flags.{unset}
+use Rattle.ffs_volume.specs.{Blocks.KeptOffers.{kept_in_steps, offer_of}, declared.{Layout.Layout, Step.Step}}
+use Rattle.ffs_volume.{specs.declared.Step.TheVariants.Run, proofs.Flags.unset}
 use Rattle.ffs_maps.specs.Bits.{bits_of}
-use Rattle.ffs_workspace.specs.Holds.{HoldsPhase1, has_unreported_dups}
-use Rattle.ffs_workspace.specs.declared.workspace.Workspace.{Workspace}
+use Rattle.ffs_workspace.specs.{Holds.{HoldsPhase1, has_unreported_dups}, declared.workspace.Workspace.Workspace}
 use Rattle.ffs_claims.specs.Reporting.{OffersReported}
 
 -- one of the offers is of the fragment f

@@ -1,20 +1,17 @@
 -- What reads, claims and reports leave of a workspace whose windows hold what the image gives.
-use Rattle.std.proofs.Common.{◌≡◌, ℕ, Bool, refl, ap, arith, length, length-set, slice_set, subst, false, Result}
-use Rattle.std.proofs.Common.{zero, suc, ◌+◌, ◌||◌, true, List, inl, inr}
-use Rattle.std.proofs.lemmas.{Bool.{cases_lt}, List.{get_or_past}}
-use Rattle.std.{proofs.Common.vec_len, specs.declared.{alloc.Global.Global, vec.Vec.Vec}}
-use Rattle.ffs_volume.specs.declared.{Class.Class, Inode.Inode, Layout.Layout}
+use Rattle.std.proofs.Common.{◌≡◌, ℕ, Bool, refl, ap, arith, length, length-set, slice_set, subst, false, Result, zero}
+use Rattle.std.proofs.{Common.{suc, ◌+◌, ◌||◌, true, List, inl, inr, vec_len}, lemmas.{Bool.cases_lt, List.get_or_past}}
+use Rattle.std.specs.declared.{alloc.Global.Global, vec.Vec.Vec}
+use Rattle.ffs_volume.{specs.declared.{Class.Class, Inode.Inode, Layout.Layout}, proofs.Flags.set_kept}
 use Rattle.ffs_image.specs.Device.{Device}
 use Rattle.ffs_report.specs.{PhaseOutcome.ImageAfter, declared.fault.RunFault.RunFault}
 use Rattle.ffs_layout.specs.declared.geometry.Geometry.{Geometry}
 use Rattle.ffs_maps.specs.{Bits.{ClaimsRun, bits_of, set_run}, Reserved.with_reserved, declared.FragmentMap.FragmentMap}
-use Rattle.ffs_volume.proofs.Flags.{set_kept}
 use Rattle.ffs_maps.proofs.ReservedBits.{get_with}
 use Rattle.ffs_walk.specs.{Windows.{CanWalk, KeepsBlocks}, declared.blocks.Blocks.Blocks}
-use Rattle.ffs_workspace.specs.{Holds.IsFresh, Lengths.IsFor, Ready.CanRead, declared.workspace.{Workspace.Workspace}}
+use Rattle.ffs_workspace.specs.{Holds.IsFresh, Lengths.IsFor, Ready.CanRead, declared.workspace.Workspace.Workspace}
 use Rattle.ffs_claims.specs.Leaves.{SameFound, ClaimsAndFinds, ClaimsOnly, Stored, OffersOnly, StaySet}
-use Rattle.ffs_claims.specs.Reporting.{Phase1bKeeps, ReportsOnly}
-use Rattle.ffs_claims.specs.Reporting.{OffersReportedOnly}
+use Rattle.ffs_claims.specs.Reporting.{Phase1bKeeps, ReportsOnly, OffersReportedOnly}
 
 -- ---- flags that stay set
 pub stay : (bits : List Bool) → StaySet bits bits

@@ -1,21 +1,20 @@
 -- An inode whose bytes say that it is free is free, and free inodes are passed over.
-use Rattle.std.proofs.Common.{◌≡◌, ◌*◌, ◌+◌, ◌-◌, ◌<◌, ◌≤◌, ◌++◌, ℕ, zero, suc, false, true, List, [], ◌∷◌, length, replicate}
-use Rattle.std.proofs.Common.{Option, arith, inl, inr, refl, ap, ◌∙◌, sym, subst, drop, take, map, vec_len}
+use Rattle.std.proofs.Common.{◌≡◌, ◌*◌, ◌+◌, ◌-◌, ◌<◌, ◌≤◌, ◌++◌, ℕ, zero, suc, false, true, List, [], ◌∷◌, length}
+use Rattle.std.proofs.Common.{replicate, Option, arith, inl, inr, refl, ap, ◌∙◌, sym, subst, drop, take, map, vec_len}
 use Rattle.std.proofs.lemmas.{Bool.{cases_lt, Decides.nat_tests}, List.{length-drop, length-take-le, take-append-drop}}
 use Rattle.std.specs.List.{range_with_len, slice_range}
 use Rattle.ffs_image.specs.Device.{ForContents}
-use Rattle.ffs_volume.specs.Blocks.{Inodes.{any_nonzero, class_of, inode_from_bytes, inode_of, inodes_of}, Steps.address_in}
-use Rattle.ffs_volume.specs.Disk.Numbers.{number, u16_at, u32_at, u64_at}
-use Rattle.ffs_volume.specs.Blocks.{BlockCheck.{lines_of_owners}, Claims.{Claims, after_owner}}
-use Rattle.ffs_volume.specs.Blocks.{Claims.{after_steps, at_next_inode}, Owners.owner_of}
-use Rattle.ffs_volume.specs.declared.{Class.TheVariants.Free, Inode.Inode, Layout.Layout}
-use Rattle.ffs_volume.specs.declared.Order.{Order, TheVariants.{Little, Big}}
+use Rattle.ffs_volume.specs.Blocks.Inodes.{any_nonzero, class_of, inode_from_bytes, inode_of, inodes_of}
+use Rattle.ffs_volume.specs.{Blocks.Steps.address_in, Disk.Numbers.{number, u16_at, u32_at, u64_at}}
+use Rattle.ffs_volume.specs.Blocks.{BlockCheck.lines_of_owners, Claims.{Claims, after_owner, after_steps}}
+use Rattle.ffs_volume.specs.{Blocks.{Claims.at_next_inode, Owners.owner_of}, declared.Class.TheVariants.Free}
+use Rattle.ffs_volume.specs.declared.{Inode.Inode, Layout.Layout, Order.{Order, TheVariants.{Little, Big}}}
 use Rattle.ffs_volume.{specs.Blocks.KeptSteps.claims_before, proofs.OwnerLaws.before_next}
 use Rattle.ffs_walk.{specs.{Windows.{WindowHolds, held_bytes}, declared.window.Window.Window}, proofs.WordBytes.no_byte}
 use Rattle.ffs_workspace.{specs.{Tables.IsTableOf, declared.table.Table.Table}, proofs.TablePlaces.held_there}
 use Rattle.ffs_workspace.specs.{Holds.claims_of, Lengths.IsFor, declared.workspace.Workspace.Workspace}
-use Rattle.ffs_claims.proofs.{Inodes.free_steps, Numbers.{FoundTo, found_next, stored_free}}
-use Rattle.ffs_claims.specs.{Lines.{of_lines, owners_from}, FreeInodes.{HasTableInodes, IsFreeInode, inode_bytes, is_free_by}}
+use Rattle.ffs_claims.{proofs.{Inodes.free_steps, Numbers.{FoundTo, found_next, stored_free}}, specs.Lines.of_lines}
+use Rattle.ffs_claims.specs.{Lines.owners_from, FreeInodes.{HasTableInodes, IsFreeInode, inode_bytes, is_free_by}}
 
 -- a list with no number but zero
 zeros_are : (xs : List ℕ) → any_nonzero xs ≡ false → xs ≡ replicate (length xs) 0

@@ -1,21 +1,19 @@
 -- How many indirect blocks are seen, step by step and inode by inode, and how often phase 1 reads an
 -- image that gives its bytes.
-use Rattle.std.proofs.Common.{◌≡◌, ℕ, zero, suc, ◌+◌, ◌-◌, ◌<◌, ◌≤◌, true, List, ◌∷◌, ◌++◌, replicate}
-use Rattle.std.{proofs.{Common.{arith, refl, ap, sym, ◌∙◌}}, specs.Int.div_ceil}
+use Rattle.std.proofs.Common.{◌≡◌, ℕ, zero, suc, ◌+◌, ◌-◌, ◌<◌, ◌≤◌, true, List, ◌∷◌, ◌++◌, replicate, arith, refl, ap}
+use Rattle.std.{proofs.Common.{sym, ◌∙◌}, specs.Int.div_ceil}
 use Rattle.ffs_volume.specs.Blocks.Claims.{Claims, after_owner, after_step, at_next_inode, is_open, no_claims}
 use Rattle.ffs_volume.specs.Blocks.{Inodes.{class_of, inode_of, inodes_of}, Owners.{owner_of, owners_of}}
 use Rattle.ffs_volume.specs.Costs.VolumeReads.{indirect_count, indirect_in_owners, indirect_in_steps, seen_indirect}
 use Rattle.ffs_volume.specs.{Costs.VolumeReads.volume_scan_reads, Laws.Geometry.IsAcceptedLayout}
-use Rattle.ffs_volume.specs.declared.{Class.TheVariants.Free, Layout.Layout, Step.{Step, TheVariants.{Gap}}}
+use Rattle.ffs_volume.specs.declared.{Class.TheVariants.Free, Layout.Layout, Step.{Step, TheVariants.Gap}}
+use Rattle.ffs_volume.{proofs.OwnerLaws.before_next, specs.Blocks.KeptSteps.claims_before}
 use Rattle.ffs_image.specs.Known.{ForBytes}
 use Rattle.ffs_walk.specs.{Counts.entered, HeldWords.word_step, Rests.steps_left, declared.walk.Walk.Walk}
 use Rattle.ffs_workspace.specs.{Tables.{HoldsInode, HoldsPiece}, declared.table.Table.Table}
-use Rattle.ffs_claims.proofs.{Inodes.free_steps, FreeInodes.{AreFree, free_claims}}
-use Rattle.ffs_claims.proofs.TableReads.{BlocksRead, blocks_all, blocks_failed}
-use Rattle.ffs_claims.proofs.TableReads.{blocks_failed_until, blocks_later, blocks_next}
-use Rattle.ffs_claims.proofs.TableReads.{blocks_until}
+use Rattle.ffs_claims.proofs.{Inodes.free_steps, FreeInodes.{AreFree, free_claims}, TableReads.{BlocksRead, blocks_all}}
+use Rattle.ffs_claims.proofs.TableReads.{blocks_failed, blocks_failed_until, blocks_later, blocks_next, blocks_until}
 use Rattle.ffs_claims.specs.{BeforeFault.reads_to_inode, Claiming.ReadsIndirect, Lines.owners_from}
-use Rattle.ffs_volume.{proofs.OwnerLaws.before_next, specs.Blocks.KeptSteps.claims_before}
 
 -- the word of an indirect block of data is none
 pub word_unseen : (s : Claims) (frag address block : ℕ) → seen_indirect s (word_step frag address block) ≡ 0

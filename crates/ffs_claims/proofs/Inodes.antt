@@ -1,28 +1,21 @@
 -- How an inode's part of the block check continues, and how many Runs it is seen to have.
-use Rattle.std.proofs.Common.{◌+◌, ◌<◌, false, arith, OnOk, ◌≡◌, ℕ}
-use Rattle.std.proofs.Common.{List, [], ◌∷◌, ◌++◌, append-nil, Option, Result, Ok}
-use Rattle.std.proofs.{Common.{refl, ◌≤◌, true}, lemmas.Bool.Decides.nat_tests}
-use Rattle.std.proofs.lemmas.List.Sums.{count_by-le-length}
-use Rattle.ffs_volume.proofs.{Potentials.step_moves, ReplayLaws.offers_runs}
-use Rattle.ffs_volume.specs.Blocks.BlockCheck.{class_lines, count_lines}
-use Rattle.ffs_volume.specs.Blocks.{BlockCheck.owner_lines, Claims.{Claims, at_next_inode, after_steps}}
-use Rattle.ffs_volume.specs.Blocks.{Claims.{lines_of_steps, is_open, after_step}, Inodes.{class_of}}
-use Rattle.ffs_volume.specs.{Blocks.{Steps.steps_of}, Laws.ClaimBounds.{used_bits, ClaimBound}}
-use Rattle.ffs_volume.specs.{Laws.{Geometry.IsAcceptedLayout, RunLengths.HasLength}, Messages.Kinds.Message}
-use Rattle.ffs_volume.specs.declared.{Class.{Class, TheVariants.Free}, Inode.Inode, Layout.Layout}
-use Rattle.ffs_volume.specs.declared.Step.{Step, TheVariants.{Gap, Run, Tail}}
-use Rattle.ffs_report.proofs.Reporting.{of_part, of_begins, of_stops}
-use Rattle.ffs_image.specs.Known.{ForBytes}
-use Rattle.ffs_report.specs.{PhaseOutcome.{FirstMessages, SaidOf}, Progress.{Progress, Said, Stopped}}
-use Rattle.ffs_report.specs.declared.fault.RunFault.{RunFault}
-use Rattle.ffs_image.specs.Device.{Device}
+use Rattle.std.proofs.Common.{◌+◌, ◌<◌, false, arith, OnOk, ◌≡◌, ℕ, List, [], ◌∷◌, ◌++◌, append-nil, Option, Result, Ok}
+use Rattle.std.proofs.{Common.{refl, ◌≤◌, true}, lemmas.{Bool.Decides.nat_tests, List.Sums.count_by-le-length}}
+use Rattle.ffs_volume.{proofs.{Potentials.step_moves, ReplayLaws.offers_runs}, specs.Blocks.BlockCheck.class_lines}
+use Rattle.ffs_volume.specs.Blocks.{BlockCheck.{count_lines, owner_lines}, Claims.{Claims, at_next_inode, after_steps}}
+use Rattle.ffs_volume.specs.Blocks.{Claims.{lines_of_steps, is_open, after_step}, Inodes.class_of, Steps.steps_of}
+use Rattle.ffs_volume.specs.Laws.{ClaimBounds.{used_bits, ClaimBound}, Geometry.IsAcceptedLayout, RunLengths.HasLength}
+use Rattle.ffs_volume.specs.{Messages.Kinds.Message, declared.{Class.{Class, TheVariants.Free}, Inode.Inode}}
+use Rattle.ffs_volume.specs.declared.{Layout.Layout, Step.{Step, TheVariants.{Gap, Run, Tail}}}
+use Rattle.ffs_report.{proofs.Reporting.{of_part, of_begins, of_stops}, specs.PhaseOutcome.{FirstMessages, SaidOf}}
+use Rattle.ffs_report.specs.{Progress.{Progress, Said, Stopped}, declared.fault.RunFault.RunFault}
+use Rattle.ffs_image.specs.{Known.ForBytes, Device.Device}
 use Rattle.ffs_layout.specs.declared.geometry.Geometry.{Geometry}
 use Rattle.ffs_walk.specs.{Windows.KeepsBlocks, declared.blocks.Blocks.Blocks}
 use Rattle.ffs_claims.proofs.{Frames.{found_none, ready_walked, stay_then}, StepsContinue.lines_append}
 use Rattle.ffs_claims.specs.{Area.IsDataArea, Claiming.{CanClaim, ClaimsInArea, FewRuns, StepsLeave, CanSeeNext}}
-use Rattle.ffs_claims.specs.Bounds.{inode_bound, step_bound}
-use Rattle.ffs_claims.specs.{Leaves.HasBegun, Lines.{of_lines, owner_with, counted_owner}}
-use Rattle.ffs_claims.specs.declared.area.DataArea.{DataArea}
+use Rattle.ffs_claims.specs.{Bounds.{inode_bound, step_bound}, Leaves.HasBegun, Lines.{of_lines, owner_with}}
+use Rattle.ffs_claims.specs.{Lines.counted_owner, declared.area.DataArea.DataArea}
 use Rattle.ffs_maps.proofs.Bits.{bits_long}
 use Rattle.ffs_workspace.specs.{Holds.claims_of, Lengths.IsFor, declared.workspace.Workspace.Workspace}
 

@@ -1,24 +1,22 @@
 -- An inode replayed by its cut keeps what it kept, and how many Runs the rescan looks at.
-use Rattle.std.proofs.Common.{◌≡◌, ℕ, zero, suc, ◌+◌, Bool, true, if◌then◌else◌, List, [], ◌∷◌, ◌++◌, append-nil}
-use Rattle.std.proofs.Common.{map, arith, refl, ap, ◌∙◌, sym, inl, inr, eq-eqb, ne_eqb, ◌≤◌, length, nat_lt}
-use Rattle.std.proofs.{Common.{None, Some, Option, ◌-◌}, lemmas.{Bool.{cases_eq, cases_Bool}, Grind.flat_map-append}}
+use Rattle.std.proofs.Common.{◌≡◌, ℕ, zero, suc, ◌+◌, Bool, true, if◌then◌else◌, List, [], ◌∷◌, ◌++◌, append-nil, map}
+use Rattle.std.proofs.Common.{arith, refl, ap, ◌∙◌, sym, inl, inr, eq-eqb, ne_eqb, ◌≤◌, length, nat_lt, None, Some}
+use Rattle.std.proofs.{Common.{Option, ◌-◌}, lemmas.{Bool.{cases_eq, cases_Bool}, Grind.flat_map-append}}
 use Rattle.std.{proofs.lemmas.List.{length-append, map-append}, specs.List.range_with_len}
-use Rattle.ffs_volume.proofs.{Potentials.{offers_keep}, PrefixLaws.full_offers, ReplayIsKeeping.replay_of}
-use Rattle.ffs_volume.proofs.{ReplayIsKeeping.{seen_replays, step_replays, step_few}, ReplayLaws.offers_runs}
-use Rattle.ffs_volume.specs.Blocks.Claims.{after_offers, Claims, at_next_inode, is_open, after_step}
-use Rattle.ffs_volume.specs.Blocks.Claims.{after_steps, after_owner, after_owners, after_offer, all_claims}
-use Rattle.ffs_volume.specs.Blocks.KeptOffers.{Offer, offer_of, kept_in_run, kept_in_offers, kept_in_step}
-use Rattle.ffs_volume.specs.Blocks.{KeptOffers.kept_in_steps, Owners.{Owner}}
-use Rattle.ffs_volume.specs.Encodings.Replay.{is_replay_open, fresh_replay, cut_of, replay_after_step}
-use Rattle.ffs_volume.specs.Report.Whole.{run_count}
-use Rattle.ffs_volume.specs.declared.{Layout.Layout, Step.{Step, TheVariants.{Run, Tail, Gap}}}
-use Rattle.ffs_volume.specs.Blocks.BlockCheck.{set_count, after_first}
-use Rattle.ffs_volume.specs.Costs.RescanRuns.{run_offers_of_step, runs_until_reported, run_offers_of_steps}
-use Rattle.ffs_volume.specs.Costs.RescanRuns.{run_offers_of_owners, rescan_runs}
+use Rattle.ffs_volume.proofs.{Potentials.offers_keep, PrefixLaws.full_offers, ReplayIsKeeping.{replay_of, seen_replays}}
+use Rattle.ffs_volume.proofs.{ReplayIsKeeping.{step_replays, step_few}, ReplayLaws.offers_runs}
+use Rattle.ffs_volume.specs.Blocks.Claims.{after_offers, Claims, at_next_inode, is_open, after_step, after_steps}
+use Rattle.ffs_volume.specs.Blocks.{Claims.{after_owner, after_owners, after_offer, all_claims}, KeptOffers.Offer}
+use Rattle.ffs_volume.specs.Blocks.KeptOffers.{offer_of, kept_in_run, kept_in_offers, kept_in_step, kept_in_steps}
+use Rattle.ffs_volume.specs.{Blocks.Owners.Owner, Encodings.Replay.{is_replay_open, fresh_replay, cut_of}}
+use Rattle.ffs_volume.specs.{Encodings.Replay.replay_after_step, Report.Whole.run_count, declared.Layout.Layout}
+use Rattle.ffs_volume.specs.{declared.Step.{Step, TheVariants.{Run, Tail, Gap}}, Blocks.BlockCheck.set_count}
+use Rattle.ffs_volume.specs.{Blocks.BlockCheck.after_first, Costs.RescanRuns.{run_offers_of_step, runs_until_reported}}
+use Rattle.ffs_volume.specs.Costs.RescanRuns.{run_offers_of_steps, run_offers_of_owners, rescan_runs}
 use Rattle.ffs_volume.specs.Costs.VolumeReads.{indirect_in_steps, seen_indirect}
 use Rattle.ffs_walk.specs.{Keepings.run_taken, SeenRuns.{seen_runs, step_run}, declared.seen_runs.SeenRun.SeenRun}
-use Rattle.ffs_claims.{proofs.Reportings.{after_append, none_after}}
-use Rattle.ffs_claims.specs.RescanRuns.{indirect_among, offers_of_runs, run_offers}
+use Rattle.ffs_claims.{proofs.Reportings.{after_append, none_after}, specs.RescanRuns.{indirect_among, offers_of_runs}}
+use Rattle.ffs_claims.specs.RescanRuns.{run_offers}
 
 -- ---- the offers that are kept are the first ones
 offers_firsts : (v : Layout) (i : ℕ) (s : Claims) (start len k : ℕ) →

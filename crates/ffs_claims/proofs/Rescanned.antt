@@ -1,35 +1,30 @@
 -- How phase 1b goes from inode to inode.
-use Rattle.std.proofs.Common.{◌≡◌, ◌≢◌, ℕ, zero, suc, ◌+◌, ◌-◌, ◌<◌, ◌≤◌}
-use Rattle.std.proofs.Common.{Bool, true, false, not, ◌&&◌, ◌==◌, List, [], ◌∷◌}
-use Rattle.std.proofs.Common.{◌++◌, length, map, slice_index, slice_set, arith, refl, ap, ◌∙◌, sym, ne_eqb, Result}
+use Rattle.std.proofs.Common.{◌≡◌, ◌≢◌, ℕ, zero, suc, ◌+◌, ◌-◌, ◌<◌, ◌≤◌, Bool, true, false, not, ◌&&◌, ◌==◌, List, []}
+use Rattle.std.proofs.Common.{◌∷◌, ◌++◌, length, map, slice_index, slice_set, arith, refl, ap, ◌∙◌, sym, ne_eqb, Result}
 use Rattle.std.proofs.lemmas.{Bool.{and_from, and_parts, Decides.nat_tests}, List.Folds.list_all-append}
 use Rattle.std.specs.List.{range_with_len, list_any, list_all}
 use Rattle.ffs_volume.proofs.{CutLaws.cut_is, OwnerLaws.before_next, Potentials.cond_holds, ReplayLaws.replay_is_runs}
-use Rattle.ffs_volume.specs.Blocks.{BlockCheck.{blames, first_offer_lines, phase1b_lines}, Claims.{Claims, no_claims}}
-use Rattle.ffs_volume.specs.Blocks.Claims.{at_next_inode, after_offer, after_step, after_steps, after_owner, all_claims}
-use Rattle.ffs_volume.specs.Blocks.{Claims.after_owners, Inodes.{inode_of, inodes_of}, KeptOffers.Offer}
-use Rattle.ffs_volume.specs.Blocks.KeptOffers.{kept_in_offers, kept_in_step, kept_in_steps, kept_in_owners}
+use Rattle.ffs_volume.specs.Blocks.BlockCheck.{blames, first_offer_lines, phase1b_lines, after_first, set_count}
+use Rattle.ffs_volume.specs.Blocks.Claims.{Claims, no_claims, at_next_inode, after_offer, after_step, after_steps}
+use Rattle.ffs_volume.specs.Blocks.{Claims.{after_owner, all_claims, after_owners}, Inodes.{inode_of, inodes_of}}
+use Rattle.ffs_volume.specs.Blocks.KeptOffers.{Offer, kept_in_offers, kept_in_step, kept_in_steps, kept_in_owners}
 use Rattle.ffs_volume.specs.Blocks.{KeptSteps.claims_before, Owners.{owner_of, owners_of}, Steps.steps_of}
 use Rattle.ffs_volume.specs.{Directories.Volumes.is_inode_number, Encodings.Replay.{fresh_replay, cut_of, cut_at}}
-use Rattle.ffs_volume.specs.{Laws.Geometry.IsAcceptedLayout}
-use Rattle.ffs_walk.{proofs.ReplayedRuns.runs_counted, specs.{SeenRuns.seen_runs, declared.seen_runs.SeenRun.SeenRun}}
-use Rattle.ffs_volume.specs.{Report.Whole.run_count, declared.{Layout.Layout, Step.{Step, TheVariants.Run}}}
-use Rattle.ffs_volume.specs.{Encodings.Notes.{cut_in, note_at}}
-use Rattle.ffs_volume.specs.Blocks.BlockCheck.{after_first, set_count}
+use Rattle.ffs_volume.specs.{Laws.Geometry.IsAcceptedLayout, Report.Whole.{run_count, phase1b_messages}}
+use Rattle.ffs_volume.specs.{declared.{Layout.Layout, Step.{Step, TheVariants.Run}}, Encodings.Notes.{cut_in, note_at}}
 use Rattle.ffs_volume.specs.Costs.RescanRuns.{run_offers_of_owners, runs_until_reported}
-use Rattle.ffs_workspace.proofs.{Leaving.counts_unsurveyed, NoteLaws.cut_is_noted}
-use Rattle.ffs_workspace.specs.{Holds.{HoldsPhase1, HoldsBlockCheck}, declared.workspace.Workspace.Workspace}
+use Rattle.ffs_walk.{proofs.ReplayedRuns.runs_counted, specs.{SeenRuns.seen_runs, declared.seen_runs.SeenRun.SeenRun}}
+use Rattle.ffs_workspace.{proofs.{Leaving.counts_unsurveyed, NoteLaws.cut_is_noted}, specs.Holds.HoldsPhase1}
+use Rattle.ffs_workspace.specs.{Holds.HoldsBlockCheck, declared.workspace.Workspace.Workspace, Found.WithPhase1}
 use Rattle.ffs_claims.proofs.{Duplicates.marked_total, Numbers.{before_end, is_inside}, RescanCounts.looked_both}
 use Rattle.ffs_claims.proofs.{RescanCounts.{runs_leave, inode_again}, StepsContinue.range_more}
 use Rattle.ffs_claims.specs.{Claiming.ReadsIndirect, Lines.owners_from, Reporting.{OffersReported, Phase1bKeeps}}
+use Rattle.ffs_claims.specs.{Phases.{WithNotes, phase1b_messages_for}, RescanRuns.{ReadsIndirectAgain, offers_by_owner}}
+use Rattle.ffs_claims.specs.RescanRuns.{offers_of_runs, run_offers}
 use Rattle.ffs_image.specs.Device.{Device}
-use Rattle.ffs_report.{proofs.Reporting.{reports_knowing, reports_same}, specs.{PhaseOutcome.PhaseReports, Progress.Progress}}
-use Rattle.ffs_report.specs.declared.fault.RunFault.{RunFault}
-use Rattle.ffs_volume.specs.Report.Whole.{phase1b_messages}
+use Rattle.ffs_report.{proofs.Reporting.{reports_knowing, reports_same}, specs.PhaseOutcome.PhaseReports}
+use Rattle.ffs_report.specs.{Progress.Progress, declared.fault.RunFault.RunFault}
 use Rattle.ffs_maps.specs.Bits.{bits_of}
-use Rattle.ffs_workspace.specs.Found.{WithPhase1}
-use Rattle.ffs_claims.specs.Phases.{WithNotes, phase1b_messages_for}
-use Rattle.ffs_claims.specs.RescanRuns.{ReadsIndirectAgain, offers_by_owner, offers_of_runs, run_offers}
 
 -- the Runs of the inode n, replayed by its noted cut, the offers that it keeps, and those of each of its Runs
 abbrev pub again_at : Layout → List ℕ → List ℕ → ℕ → List SeenRun

@@ -1,16 +1,14 @@
 -- How a second walk over an inode continues.
-use Rattle.std.proofs.Common.{◌≡◌, ◌≢◌, ◌≤◌, ℕ, ◌+◌, List, [], ◌∷◌, arith, ap, ne_eqb, length, map, min}
-use Rattle.std.proofs.{Common.{◌<◌, ◌-◌, ◌^◌, Ok}}
-use Rattle.ffs_volume.specs.{declared.Layout.Layout, Blocks.BlockCheck.set_count}
-use Rattle.ffs_volume.specs.Costs.RescanRuns.{runs_until_reported}
+use Rattle.std.proofs.Common.{◌≡◌, ◌≢◌, ◌≤◌, ℕ, ◌+◌, List, [], ◌∷◌, arith, ap, ne_eqb, length, map, min, ◌<◌, ◌-◌, ◌^◌}
+use Rattle.std.proofs.Common.{Ok}
+use Rattle.ffs_volume.specs.{declared.Layout.Layout, Blocks.BlockCheck.set_count, Costs.RescanRuns.runs_until_reported}
 use Rattle.ffs_image.specs.Device.{Device}
 use Rattle.ffs_maps.specs.Bits.{bits_of}
 use Rattle.ffs_walk.specs.{Windows.KeepsBlocks, declared.{blocks.Blocks.Blocks, seen_runs.SeenRun.SeenRun}}
 use Rattle.ffs_workspace.specs.declared.workspace.{Windows.Windows, Workspace.Workspace}
 use Rattle.ffs_layout.specs.declared.geometry.Geometry.{Geometry}
-use Rattle.ffs_claims.proofs.{Reportings.{reporting_over, Reporting, reporting_more}}
-use Rattle.ffs_claims.proofs.{Reportings.{reporting_ends, reported_from}, RescanCounts.looked_none}
-use Rattle.ffs_claims.specs.{Reporting.{OffersReported, ReportsOnly, RewalkLeaves}}
+use Rattle.ffs_claims.proofs.Reportings.{reporting_over, Reporting, reporting_more, reporting_ends, reported_from}
+use Rattle.ffs_claims.{proofs.RescanCounts.looked_none, specs.Reporting.{OffersReported, ReportsOnly, RewalkLeaves}}
 use Rattle.ffs_claims.specs.RescanRuns.{Rewalked, RoseBy, RunsPay, offers_of_runs, run_offers}
 
 -- where a second walk is, with the Runs R left to it: what it reported, and the Runs it looked at

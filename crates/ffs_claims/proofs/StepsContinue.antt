@@ -1,14 +1,12 @@
 -- How offers, steps and inodes continue.
-use Rattle.std.proofs.Common.{◌≡◌, ℕ, zero, suc, ◌+◌, ◌-◌, ◌<◌, false, ◌==◌, List, [], ◌∷◌, ◌++◌, arith, rules}
-use Rattle.std.proofs.Common.{refl, ap, replicate, ◌&&◌, not, inl, inr}
-use Rattle.std.{proofs.lemmas.{Bool.{cases_Bool, Decides.nat_tests}, List.map-append}}
-use Rattle.std.specs.List.{range_with_len}
-use Rattle.ffs_volume.{specs.Blocks.Claims.{Claims, is_open, after_offer, after_step}}
-use Rattle.ffs_volume.specs.Blocks.Claims.{after_steps, offer_lines, lines_of_offers, step_lines, lines_of_steps}
-use Rattle.ffs_volume.specs.Blocks.{Claims.run_lines, Steps.{steps_of}}
-use Rattle.ffs_volume.specs.{Blocks.Steps.{is_walked}, Disk.Areas.is_run_in_range}
-use Rattle.ffs_volume.specs.{Messages.Kinds.{Message, of_blocks}, declared.{BlockMessage.BlockMessage, Inode.Inode}}
-use Rattle.ffs_volume.specs.declared.{Layout.Layout, Step.{Step, TheVariants.Gap}}
+use Rattle.std.proofs.Common.{◌≡◌, ℕ, zero, suc, ◌+◌, ◌-◌, ◌<◌, false, ◌==◌, List, [], ◌∷◌, ◌++◌, arith, rules, refl}
+use Rattle.std.proofs.{Common.{ap, replicate, ◌&&◌, not, inl, inr}, lemmas.Bool.{cases_Bool, Decides.nat_tests}}
+use Rattle.std.{proofs.lemmas.List.map-append, specs.List.range_with_len}
+use Rattle.ffs_volume.specs.Blocks.Claims.{Claims, is_open, after_offer, after_step, after_steps, offer_lines}
+use Rattle.ffs_volume.specs.Blocks.{Claims.{lines_of_offers, step_lines, lines_of_steps, run_lines}, Steps.steps_of}
+use Rattle.ffs_volume.specs.{Blocks.Steps.is_walked, Disk.Areas.is_run_in_range, Messages.Kinds.{Message, of_blocks}}
+use Rattle.ffs_volume.specs.declared.{BlockMessage.BlockMessage, Inode.Inode, Layout.Layout, Step.Step}
+use Rattle.ffs_volume.specs.declared.Step.TheVariants.{Gap}
 use Rattle.ffs_report.proofs.{Reporting.{of_says, of_same}, Reports.{stopped_more, said_then, stopped_after}}
 use Rattle.ffs_report.specs.{PhaseOutcome.SaidOf, Progress.{Progress, Said, Stopped}}
 use Rattle.ffs_image.specs.Known.{ForBytes}

@@ -1,7 +1,6 @@
 -- How often phase 1 reads the inode tables: once for each block at most.
 use Rattle.std.proofs.Common.{◌≡◌, ℕ, suc, ◌+◌, ◌-◌, ◌*◌, ◌/◌, ◌%◌, ◌<◌, ◌≤◌, ◌⊎◌, inl, inr, ◌∙◌, ap, arith}
-use Rattle.std.{proofs.lemmas.Grind.div_ceil_times, specs.Int.div_ceil}
-use Rattle.std.proofs.{lemmas.{Bool.cases_lt, Nat.{div-mul-add, mod_below}}}
+use Rattle.std.{proofs.lemmas.{Grind.div_ceil_times, Bool.cases_lt, Nat.{div-mul-add, mod_below}}, specs.Int.div_ceil}
 use Rattle.std.proofs.Math.Nat.{div-add-mod', le-div_iff_mul-le, mul-le-mul_right, mul_assoc, mul_comm, mul-mod_right}
 use Rattle.ffs_volume.specs.{Laws.Geometry.IsAcceptedLayout, Report.Reads.table_blocks, declared.Layout.Layout}
 use Rattle.ffs_volume.specs.Blocks.Inodes.{inodes_of}

@@ -1,9 +1,8 @@
 -- Runs whose offers are taken at once with nothing to report, and which Runs are in range.
 use Rattle.std.proofs.Common.{◌≡◌, ℕ, zero, suc, ◌+◌, ◌-◌, ◌<◌, ◌≤◌, true, false, nat_lt, [], slice_set, get_or, arith}
-use Rattle.std.proofs.{Common.{refl, ap, ◌∙◌, Bool, sym, not, ◌/◌}}
-use Rattle.std.proofs.{lemmas.{Bool.Decides.nat_tests, List.{get_or-set_other, set-get_or}}}
-use Rattle.std.specs.List.{range_with_len, slice_index_or}
-use Rattle.ffs_volume.proofs.{AreaLaws.group_is, Potentials.{each_ok, in_range_below}, RunLaws.{in_range_is}}
+use Rattle.std.proofs.{Common.{refl, ap, ◌∙◌, Bool, sym, not, ◌/◌}, lemmas.Bool.Decides.nat_tests}
+use Rattle.std.{proofs.lemmas.List.{get_or-set_other, set-get_or}, specs.List.{range_with_len, slice_index_or}}
+use Rattle.ffs_volume.proofs.{AreaLaws.group_is, Potentials.{each_ok, in_range_below}, RunLaws.in_range_is}
 use Rattle.ffs_volume.specs.Blocks.Claims.{Claims, is_set, after_offer, after_offers, offer_lines, lines_of_offers}
 use Rattle.ffs_volume.specs.Disk.Areas.{is_fragment_in_range, is_run_in_range, cgbase, cgstart, cgsblock, cgdmin}
 use Rattle.ffs_volume.specs.{Laws.Geometry.IsAcceptedLayout, declared.Layout.Layout}

@@ -1,19 +1,18 @@
 -- What the words of an indirect block claim with nothing to report, one after the other.
-use Rattle.std.proofs.Common.{◌≡◌, ◌≢◌, ℕ, ◌+◌, ◌<◌, ◌≤◌, true, false, nat_eq, nat_lt, List, ◌∷◌, arith}
-use Rattle.std.proofs.{Common.{Option, refl, subst, sym, ◌∙◌}, lemmas.Bool.{and_parts, Decides.nat_tests}}
+use Rattle.std.proofs.Common.{◌≡◌, ◌≢◌, ℕ, ◌+◌, ◌<◌, ◌≤◌, true, false, nat_eq, nat_lt, List, ◌∷◌, arith, Option, refl}
+use Rattle.std.proofs.{Common.{subst, sym, ◌∙◌}, lemmas.Bool.{and_parts, Decides.nat_tests}}
 use Rattle.ffs_volume.{proofs.Potentials.{cond_holds, moves_then, stays}, specs.Blocks.Claims.{after_step, is_open}}
 use Rattle.ffs_volume.specs.{Disk.Areas.is_run_in_range, Laws.{Geometry.IsAcceptedLayout, RunLengths.HasLength}}
 use Rattle.ffs_volume.specs.declared.Layout.{Layout}
 use Rattle.ffs_image.specs.Device.{ForContents}
 use Rattle.ffs_maps.specs.Bits.{bits_of, AreClear, set_run}
-use Rattle.ffs_walk.specs.{Counts.EntersOnly, HeldWords.word_step, Rests.SameFileBlocks}
-use Rattle.ffs_walk.specs.{Rests.{most_steps_left, steps_left}, Windows.BlocksHold, declared.walk.Walk.Walk}
+use Rattle.ffs_walk.specs.{Counts.EntersOnly, HeldWords.word_step, Rests.{SameFileBlocks, most_steps_left, steps_left}}
+use Rattle.ffs_walk.specs.{Windows.BlocksHold, declared.walk.Walk.Walk}
 use Rattle.ffs_workspace.specs.{Holds.claims_of, Lengths.IsFor, declared.workspace.Workspace.Workspace}
 use Rattle.ffs_claims.proofs.{Frames.only_then, IndirectReads.{step_on, word_unseen}, UnclaimedRuns.whole_is}
-use Rattle.ffs_claims.proofs.Inodes.{moves_on, seen_bound}
-use Rattle.ffs_claims.specs.Bounds.{step_bound, address_bound}
-use Rattle.ffs_claims.specs.SilentAddresses.{ClaimsAddress, ClaimsSilently, ClaimsAddresses}
-use Rattle.ffs_claims.specs.{Claiming.CanSeeNext, declared.area.DataArea.DataArea}
+use Rattle.ffs_claims.{proofs.Inodes.{moves_on, seen_bound}, specs.Bounds.{step_bound, address_bound}}
+use Rattle.ffs_claims.specs.{SilentAddresses.{ClaimsAddress, ClaimsSilently, ClaimsAddresses}, Claiming.CanSeeNext}
+use Rattle.ffs_claims.specs.declared.area.DataArea.{DataArea}
 
 -- a Run in range of which all fragments are unclaimed
 pub run_claims : {v : Layout} {old new : Workspace} (start len block : ℕ) → is_open (claims_of old) ≡ true →

@@ -1,26 +1,21 @@
 -- What inodes ask for before they claim, and what they leave.
-use Rattle.std.specs.{List.range_with_len, Prelude.{◌≡◌, ℕ, ◌+◌, ◌<◌, ◌≤◌, Bool, true, false, List}}
-use Rattle.std.specs.Prelude.{Result, OnOk, IfOk}
+use Rattle.std.specs.{List.range_with_len, Prelude.{◌≡◌, ℕ, ◌+◌, ◌<◌, ◌≤◌, Bool, true, false, List, Result, OnOk, IfOk}}
 use Rattle.ffs_volume.specs.Blocks.{BlockCheck.owner_lines, Inodes.{class_of, inodes_of}, Owners.{Owner, owner_of}}
 use Rattle.ffs_volume.specs.Blocks.Claims.{Claims, after_offer, after_offers, after_owner, after_step, after_steps}
 use Rattle.ffs_volume.specs.Blocks.Claims.{at_next_inode, is_open, lines_of_offers, lines_of_steps, no_claims}
-use Rattle.ffs_volume.specs.{Blocks.Claims.step_lines, Disk.Areas.is_run_in_range}
-use Rattle.ffs_volume.specs.{Report.Memory.runs_without_claim, Costs.VolumeReads.indirect_in_steps}
-use Rattle.ffs_volume.specs.{Laws.{ClaimBounds.{used_bits, ClaimBound}, RunLengths.HasLength}, declared.Class.Class}
-use Rattle.ffs_volume.specs.declared.{Inode.Inode, Layout.Layout, Step.Step}
-use Rattle.ffs_image.specs.Device.{Device, ForContents}
-use Rattle.ffs_report.specs.{PhaseOutcome.{ImageAfter, PhaseReports}, Progress.Says}
-use Rattle.ffs_image.specs.Known.{IsContents}
-use Rattle.ffs_report.specs.declared.fault.RunFault.{RunFault}
+use Rattle.ffs_volume.specs.{Blocks.Claims.step_lines, Disk.Areas.is_run_in_range, Report.Memory.runs_without_claim}
+use Rattle.ffs_volume.specs.{Costs.VolumeReads.indirect_in_steps, Laws.ClaimBounds.{used_bits, ClaimBound}}
+use Rattle.ffs_volume.specs.{Laws.RunLengths.HasLength, declared.{Class.Class, Inode.Inode, Layout.Layout, Step.Step}}
+use Rattle.ffs_image.specs.{Device.{Device, ForContents}, Known.IsContents}
+use Rattle.ffs_report.specs.{PhaseOutcome.{ImageAfter, PhaseReports}, Progress.Says, declared.fault.RunFault.RunFault}
 use Rattle.ffs_layout.specs.declared.geometry.Geometry.{Geometry}
 use Rattle.ffs_maps.specs.{Bits.bits_of, Reserved.with_reserved}
 use Rattle.ffs_walk.specs.Counts.{entered}
 use Rattle.ffs_workspace.specs.{Holds.{IsFresh, claims_of}, Lengths.IsFor, Ready.CanRead, Tables.HoldsInode}
 use Rattle.ffs_workspace.specs.{Tables.HoldsPiece, declared.workspace.Workspace.Workspace}
-use Rattle.ffs_claims.specs.{Area.IsDataArea, Bounds.{inode_bound, step_bound}}
-use Rattle.ffs_claims.specs.Leaves.{CanOffer, ClaimsAndFinds, ClaimsOnly, HasBegun, OffersOnly, SameFound}
-use Rattle.ffs_claims.specs.{Lines.of_lines, Moments.{ClaimMoment, PhaseMoment}, declared.area.DataArea.DataArea}
-use Rattle.ffs_claims.specs.declared.{area.Run.Run, claim.Scan.Scan}
+use Rattle.ffs_claims.specs.{Area.IsDataArea, Bounds.{inode_bound, step_bound}, Leaves.{CanOffer, ClaimsAndFinds}}
+use Rattle.ffs_claims.specs.{Leaves.{ClaimsOnly, HasBegun, OffersOnly, SameFound}, Lines.of_lines, Moments.ClaimMoment}
+use Rattle.ffs_claims.specs.{Moments.PhaseMoment, declared.{area.{DataArea.DataArea, Run.Run}, claim.Scan.Scan}}
 
 -- the reserved fragments are set in the map `used`: where the workspace was as it was made, they alone are
 -- used then. The counts of the current inode and that of Runs are 0, and nothing else changes

@@ -1,18 +1,15 @@
 -- What phases 1 and 1b leave of a workspace at their answer, and how often they read the image.
 use Rattle.std.specs.Prelude.{◌≡◌, ◌<◌, ◌≤◌, ◌+◌, ◌-◌, ◌*◌, ◌^◌, ℕ, Bool, false, List, ◌∷◌, OnErr, MatchResult, Result}
-use Rattle.std.specs.Prelude.{if◌then◌else◌, nat_lt, slice_index}
-use Rattle.std.specs.Int.{div_ceil}
-use Rattle.ffs_image.specs.Device.{Device}
-use Rattle.ffs_volume.specs.{declared.Layout.Layout, Blocks.{BlockCheck.has_dup_lines, Owners.owners_of}}
-use Rattle.ffs_volume.specs.Costs.RescanRuns.{rescan_runs}
-use Rattle.ffs_volume.specs.Blocks.{BlockCheck.first_offer_lines, Claims.no_claims, KeptOffers.{Offer, kept_in_owners}}
-use Rattle.ffs_volume.specs.Blocks.KeptSteps.{claims_before}
+use Rattle.std.specs.{Prelude.{if◌then◌else◌, nat_lt, slice_index}, Int.div_ceil}
+use Rattle.ffs_image.specs.{Device.Device, Known.{ForBytes, IsContents}}
+use Rattle.ffs_volume.specs.{declared.Layout.Layout, Blocks.BlockCheck.{has_dup_lines, first_offer_lines}}
+use Rattle.ffs_volume.specs.{Blocks.{Owners.owners_of, Claims.no_claims}, Costs.RescanRuns.rescan_runs}
+use Rattle.ffs_volume.specs.Blocks.{KeptOffers.{Offer, kept_in_owners}, KeptSteps.claims_before}
+use Rattle.ffs_volume.specs.{Messages.Kinds.{Message, phase1b}, Directories.Volumes.marked_by_phase1_at}
+use Rattle.ffs_volume.specs.{Encodings.{Kinds.kind_at, Links.start_at, Notes.note_at}, Report.Memory.runs_limit}
+use Rattle.ffs_volume.specs.{Report.Reads.{sweep_reads, table_blocks}, Costs.VolumeReads.indirect_count}
+use Rattle.ffs_volume.specs.{Costs.VolumeReads.volume_scan_reads, Report.Whole.run_count}
 use Rattle.ffs_maps.specs.Bits.{bits_of}
-use Rattle.ffs_volume.specs.Messages.Kinds.{Message, phase1b}
-use Rattle.ffs_volume.specs.{Directories.Volumes.marked_by_phase1_at, Encodings.{Kinds.kind_at, Links.start_at, Notes.note_at}}
-use Rattle.ffs_volume.specs.Report.{Memory.runs_limit, Reads.{sweep_reads, table_blocks}}
-use Rattle.ffs_volume.specs.{Costs.VolumeReads.{indirect_count, volume_scan_reads}, Report.Whole.run_count}
-use Rattle.ffs_image.specs.Known.{ForBytes, IsContents}
 use Rattle.ffs_workspace.specs.{declared.workspace.Workspace.Workspace, Found.{WithFresh, WithPhase1}}
 use Rattle.ffs_workspace.specs.Holds.{HoldsBlockCheck, HoldsPhase1, bool_at, has_unreported_dups}
 use Rattle.ffs_claims.specs.{Leaves.{ClaimsAndFinds, StaySet}, Lines.of_lines, RescanRuns.rescan_end}

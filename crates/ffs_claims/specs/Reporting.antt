@@ -1,13 +1,11 @@
 -- What phase 1b has reported, and what it leaves to report.
-use Rattle.std.specs.{List.list_any, Prelude.{◌≡◌, ◌≢◌, ◌<◌, ℕ, Result, OnErr, OnOk, ◌||◌, List, [], ◌∷◌, ◌++◌}}
-use Rattle.std.specs.Prelude.{◌≤◌, ◌+◌, ◌-◌, length, Ok, Err}
+use Rattle.std.specs.{List.list_any, Prelude.{◌≡◌, ◌≢◌, ◌<◌, ℕ, Result, OnErr, OnOk, ◌||◌, List, [], ◌∷◌, ◌++◌, ◌≤◌}}
+use Rattle.std.specs.Prelude.{◌+◌, ◌-◌, length, Ok, Err}
 use Rattle.ffs_volume.specs.Blocks.{BlockCheck.{blames, first_offer_lines, set_count, after_first}, KeptOffers.Offer}
-use Rattle.ffs_volume.specs.{declared.Layout.Layout, Blocks.Inodes.inodes_of}
+use Rattle.ffs_volume.specs.{declared.Layout.Layout, Blocks.Inodes.inodes_of, Messages.Kinds.Message}
 use Rattle.ffs_image.specs.Device.{Device}
-use Rattle.ffs_volume.specs.Messages.Kinds.{Message}
 use Rattle.ffs_report.specs.{Paid.LastBegun, PhaseOutcome.ImageAfter, Progress.{Progress, Said, Says}}
-use Rattle.ffs_report.specs.declared.{fault.RunFault.RunFault, output.OutFault.OutFault}
-use Rattle.ffs_report.specs.declared.fault.RunFault.TheVariants.{Out}
+use Rattle.ffs_report.specs.declared.{fault.RunFault.{RunFault, TheVariants.Out}, output.OutFault.OutFault}
 use Rattle.ffs_maps.specs.Bits.{bits_of}
 use Rattle.ffs_workspace.specs.{Holds.bool_at, Lengths.IsFor, Ready.CanRead, declared.workspace.Workspace.Workspace}
 use Rattle.ffs_claims.specs.{Lines.of_lines, Moments.ClaimMoment}

@@ -1,21 +1,19 @@
 -- The offers of the Runs that phase 1b looks at, and what walking over an inode again leaves. Which Runs these are, and
 -- how many of their offers are kept, says `SeenRuns` of ffs_walk.
-use Rattle.std.specs.{List.{flat_map, range_with_len}, Prelude.{◌≡◌, ◌<◌, ◌≤◌, ℕ, ◌+◌, ◌-◌, ◌^◌, List, [], ◌∷◌}}
-use Rattle.std.specs.Prelude.{length, map, Result, OnErr, OnOk, slice_index}
-use Rattle.ffs_volume.specs.Blocks.BlockCheck.{first_offer_lines}
-use Rattle.ffs_volume.specs.Costs.RescanRuns.{runs_until_reported}
-use Rattle.ffs_volume.specs.Blocks.KeptOffers.{Offer, kept_in_steps, offer_of}
-use Rattle.ffs_volume.specs.{Blocks.{Inodes.inode_of, Steps.steps_of}, Encodings.{Replay.fresh_replay, Notes.cut_in}}
-use Rattle.ffs_volume.specs.Blocks.Claims.{Claims, after_owner, all_claims, at_next_inode, no_claims}
-use Rattle.ffs_volume.specs.Blocks.Owners.{Owner, owners_of}
+use Rattle.std.specs.{List.{flat_map, range_with_len}, Prelude.{◌≡◌, ◌<◌, ◌≤◌, ℕ, ◌+◌, ◌-◌, ◌^◌, List, [], ◌∷◌, length}}
+use Rattle.std.specs.Prelude.{map, Result, OnErr, OnOk, slice_index}
+use Rattle.ffs_volume.specs.{Blocks.BlockCheck.first_offer_lines, Costs.RescanRuns.runs_until_reported}
+use Rattle.ffs_volume.specs.Blocks.{KeptOffers.{Offer, kept_in_steps, offer_of}, Inodes.inode_of, Steps.steps_of}
+use Rattle.ffs_volume.specs.{Encodings.{Replay.fresh_replay, Notes.cut_in}, Blocks.Claims.{Claims, after_owner}}
+use Rattle.ffs_volume.specs.Blocks.{Claims.{all_claims, at_next_inode, no_claims}, Owners.{Owner, owners_of}}
 use Rattle.ffs_volume.specs.declared.{constants.TheConstants.ROOTINO, Inode.Inode, Layout.Layout}
 use Rattle.ffs_report.specs.{PhaseOutcome.PhaseReports, declared.fault.RunFault.RunFault}
 use Rattle.ffs_image.specs.{Device.ForContents, Known.IsContents}
 use Rattle.ffs_maps.specs.Bits.{bits_of}
 use Rattle.ffs_walk.specs.{SeenRuns.{indirect_in_run, seen_runs}, declared.seen_runs.SeenRun.SeenRun}
 use Rattle.ffs_workspace.specs.{Tables.{HoldsInode, HoldsPiece}, declared.workspace.Workspace.Workspace}
-use Rattle.ffs_claims.specs.{Lines.of_lines, Moments.{PhaseMoment, claim_at}}
-use Rattle.ffs_claims.specs.Reporting.{ClearsAsSaid, OffersReported, ReportedInPart, RewalkLeaves}
+use Rattle.ffs_claims.specs.{Lines.of_lines, Moments.{PhaseMoment, claim_at}, Reporting.{ClearsAsSaid, OffersReported}}
+use Rattle.ffs_claims.specs.Reporting.{ReportedInPart, RewalkLeaves}
 
 -- the kept offers of a Run, and of Runs
 abbrev pub run_offers : (number : ℕ) → SeenRun → List Offer

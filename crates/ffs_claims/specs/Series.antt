@@ -1,14 +1,12 @@
 -- Runs that the words of an indirect block name in turn, and that are claimed together.
 use Rattle.std.specs.Prelude.{◌≡◌, ℕ, ◌+◌, ◌/◌, ◌%◌, ◌<◌, ◌≤◌, true, length}
-use Rattle.ffs_volume.specs.{Blocks.Claims.{Claims, is_open}, Disk.Areas.is_run_in_range}
-use Rattle.ffs_volume.specs.{declared.Layout.Layout}
+use Rattle.ffs_volume.specs.{Blocks.Claims.{Claims, is_open}, Disk.Areas.is_run_in_range, declared.Layout.Layout}
 use Rattle.ffs_maps.specs.Bits.{AreClear, set_run}
-use Rattle.ffs_walk.specs.{Counts.EntersOnly, HeldWords.{IsInHeldBlock, next_address}}
-use Rattle.ffs_walk.specs.{Rests.{SameFileBlocks, most_steps_left}, declared.blocks.Blocks.Blocks}
-use Rattle.ffs_walk.specs.declared.walk.Walk.{Walk}
+use Rattle.ffs_walk.specs.{Counts.EntersOnly, HeldWords.{IsInHeldBlock, next_address}, Rests.SameFileBlocks}
+use Rattle.ffs_walk.specs.{Rests.most_steps_left, declared.{blocks.Blocks.Blocks, walk.Walk.Walk}}
 use Rattle.ffs_workspace.specs.declared.workspace.Workspace.{Workspace}
-use Rattle.ffs_claims.specs.Bounds.{address_bound}
-use Rattle.ffs_claims.specs.{Claiming.CanSeeNext, SilentAddresses.{ClaimsAddresses, MeansSame}, declared.area.DataArea.DataArea}
+use Rattle.ffs_claims.specs.{Bounds.address_bound, Claiming.CanSeeNext, SilentAddresses.{ClaimsAddresses, MeansSame}}
+use Rattle.ffs_claims.specs.declared.area.DataArea.{DataArea}
 
 -- a word is left of the single indirect block that a walk is in, and this is the address there
 pub record HasNext (blocks : Blocks) (w : Walk) (address : ℕ) : Type 0 where

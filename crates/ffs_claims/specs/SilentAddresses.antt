@@ -7,9 +7,8 @@ use Rattle.ffs_image.specs.Device.{ForContents}
 use Rattle.ffs_walk.specs.{Counts.EntersOnly, HeldWords.word_step, Rests.{SameFileBlocks, most_steps_left, steps_left}}
 use Rattle.ffs_walk.specs.{Windows.BlocksHold, declared.{blocks.Blocks.Blocks, walk.Walk.Walk}}
 use Rattle.ffs_workspace.specs.{Holds.claims_of, declared.workspace.Workspace.Workspace}
-use Rattle.ffs_claims.specs.Bounds.{step_bound, address_bound}
-use Rattle.ffs_claims.specs.{Claiming.CanSeeNext, Leaves.ClaimsOnly, declared.area.DataArea.DataArea}
-use Rattle.ffs_claims.specs.declared.silent_addresses.RunCounts.{RunCounts}
+use Rattle.ffs_claims.specs.{Bounds.{step_bound, address_bound}, Claiming.CanSeeNext, Leaves.ClaimsOnly}
+use Rattle.ffs_claims.specs.declared.{area.DataArea.DataArea, silent_addresses.RunCounts.RunCounts}
 
 -- a workspace with these counts of Runs that are looked at, and of offers that are kept
 abbrev pub with_run_counts : Workspace → RunCounts → Workspace

@@ -4,8 +4,7 @@ ghost use Rattle.std.specs.Prelude.{◌≡◌, ◌==◌, ◌&&◌, ◌<◌, [], 
 ghost use Rattle.ffs_volume.specs.Blocks.{BlockCheck.{class_lines, count_lines}, Inodes.is_file_or_dir};
 ghost use Rattle.ffs_report.specs.Progress.{progress, Says};
 ghost use Rattle.ffs_workspace.specs.Holds.{claims_of};
-ghost use Rattle.ffs_claims.specs.Bounds.{sectors_bound};
-ghost use Rattle.ffs_claims.specs.Lines.{of_lines, counted_owner, dup_lines, bad_lines};
+ghost use Rattle.ffs_claims.specs.{Bounds.sectors_bound, Lines.{of_lines, counted_owner, dup_lines, bad_lines}};
 ghost use Rattle.ffs_volume.specs.Blocks.Claims as claims;
 ghost use Rattle.ffs_volume.specs.declared.BlockMessage.TheVariants as lines;
 

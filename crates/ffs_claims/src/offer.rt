@@ -4,10 +4,9 @@ ghost use Rattle.std.specs.Prelude.{◌≡◌, ℕ, IfOk, IsTrue, Option, false,
 ghost use Rattle.ffs_volume.specs.{Blocks.Claims.offer_lines, Disk.Areas.{is_fragment_in_range, is_run_in_range}};
 ghost use Rattle.ffs_report.specs.Progress.{progress, Says};
 ghost use Rattle.ffs_workspace.specs.Holds.{claims_of};
-ghost use Rattle.ffs_claims.specs.Bounds.{step_bound};
-ghost use Rattle.ffs_claims.specs.Claiming.{CanSeeNext, CanSeeStep, CanTakeOffers, ClaimsInArea, ClaimsStep};
-ghost use Rattle.ffs_claims.specs.{Claiming.{TakesOffer, TakesOffers}, Leaves.CanOffer, Moments.claim_moment};
-ghost use Rattle.ffs_claims.specs.Lines.{has_dup_line, of_lines};
+ghost use Rattle.ffs_claims.specs.{Bounds.step_bound, Claiming.{CanSeeNext, CanSeeStep, CanTakeOffers, ClaimsInArea}};
+ghost use Rattle.ffs_claims.specs.{Claiming.{ClaimsStep, TakesOffer, TakesOffers}, Leaves.CanOffer};
+ghost use Rattle.ffs_claims.specs.{Moments.claim_moment, Lines.{has_dup_line, of_lines}};
 ghost use Rattle.ffs_volume.specs.Blocks.Claims as claims;
 ghost use Rattle.ffs_volume.specs.declared.Step.TheVariants as steps;
 

@@ -2,19 +2,16 @@
 
 ghost use Rattle.std.specs.Prelude.{◌≡◌, OnOk};
 ghost use Rattle.ffs_volume.specs.{Blocks.Inodes.inode_of, Report.Whole.phase1b_messages};
-ghost use Rattle.ffs_report.specs.PhaseOutcome.{HeadingFirst, ImageAfter, PhaseReports};
-ghost use Rattle.ffs_image.specs.Known.{ForBytes};
-ghost use Rattle.ffs_report.specs.Progress.{progress};
-ghost use Rattle.ffs_volume.specs.Messages.Kinds as messages;
-ghost use Rattle.ffs_workspace.specs.{Found.WithPhase1, Ready.IsReady};
-ghost use Rattle.ffs_claims.specs.Moments.{after_one_read, claim_moment, phase_moment};
-ghost use Rattle.ffs_claims.specs.Phases.{GoesOverOffers, IsLeftByPhase1b, Phase1bReads, Phase1bReadsUnlimited};
+ghost use Rattle.ffs_report.specs.{PhaseOutcome.{HeadingFirst, ImageAfter, PhaseReports}, Progress.progress};
 ghost use Rattle.ffs_report.specs.Fails.{FailsIn};
-ghost use Rattle.ffs_claims.specs.BeforeFault.{DupsSaidBelow};
-ghost use Rattle.ffs_claims.specs.Phases.{WithNotes, phase1b_messages_for};
-ghost use Rattle.ffs_claims.specs.Reporting.{CanRewalk, ClearsAsSaid, Phase1bKeeps};
+ghost use Rattle.ffs_image.specs.Known.{ForBytes};
+ghost use Rattle.ffs_workspace.specs.{Found.WithPhase1, Ready.IsReady};
+ghost use Rattle.ffs_claims.specs.{Moments.{after_one_read, claim_moment, phase_moment}, Phases.GoesOverOffers};
+ghost use Rattle.ffs_claims.specs.Phases.{IsLeftByPhase1b, Phase1bReads, Phase1bReadsUnlimited, WithNotes};
+ghost use Rattle.ffs_claims.specs.{Phases.phase1b_messages_for, BeforeFault.DupsSaidBelow, Reporting.CanRewalk};
+ghost use Rattle.ffs_claims.specs.{Reporting.{ClearsAsSaid, Phase1bKeeps}, RescanRuns.{RereadsByBlock, Rewalks}};
 ghost use Rattle.ffs_maps.specs.Bits.{bits_of};
-ghost use Rattle.ffs_claims.specs.RescanRuns.{RereadsByBlock, Rewalks};
+ghost use Rattle.ffs_volume.specs.Messages.Kinds as messages;
 
 use crate::report_offer::report_run;
 use ffs_image::{Image, LimitedImage};

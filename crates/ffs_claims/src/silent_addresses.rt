@@ -13,10 +13,9 @@
 ghost use Rattle.std.specs.Prelude.{◌≡◌, ◌≢◌, ◌<◌, false, IsTrue};
 ghost use Rattle.ffs_volume.specs.declared.Layout.{Layout};
 ghost use Rattle.ffs_walk.specs.{HeldWords.IsInHeldBlock, Windows.HasRoom, Rests.IsAtTop};
-ghost use Rattle.ffs_claims.specs.{Claiming.CanSeeNext, SilentAddresses.{CanClaimAddresses, ClaimsAddress, CanClaimAddress}};
-ghost use Rattle.ffs_claims.specs.{SilentAddresses.{ClaimsAddresses, with_run_counts}, Series.{CanClaimNext, ClaimsNext}};
-ghost use Rattle.ffs_claims.specs.Bounds.{address_bound};
-ghost use Rattle.ffs_claims.specs.Series.{HasNext, PassesSeries};
+ghost use Rattle.ffs_claims.specs.{Claiming.CanSeeNext, SilentAddresses.{CanClaimAddresses, ClaimsAddress}};
+ghost use Rattle.ffs_claims.specs.SilentAddresses.{CanClaimAddress, ClaimsAddresses, with_run_counts};
+ghost use Rattle.ffs_claims.specs.{Series.{CanClaimNext, ClaimsNext, HasNext, PassesSeries}, Bounds.address_bound};
 
 use crate::area::DataArea;
 use ffs_volume::Order;

@@ -1,16 +1,14 @@
 -- Laws of walks along parents.
 use Rattle.std.proofs.Common.{◌≡◌, ◌≢◌, ℕ, zero, suc, ◌+◌, ◌-◌, ◌<◌, ◌≤◌, ◌==◌, Bool, true, false, List, length, Option}
-use Rattle.std.proofs.Common.{None, Some, arith, sym, ◌∙◌, ap, inl, inr, set, ◌⊎◌, get_or-set_same}
-use Rattle.std.proofs.{Common.{All, get_or-set_other, length-set, unwrap_or}, lemmas.Bool.{cases_eq, false_from_ne_true}}
-use Rattle.std.proofs.lemmas.Bool.{both_ways, cases_lt, eqb-true}
-use Rattle.ffs_volume.{specs.Disk.Search.first_below, specs.Directories.Climb.is_value, proofs.ClimbLaws.is_value-from}
-use Rattle.ffs_volume.proofs.SearchLaws.{first_below-is, some_below-from, some_below-gives, IsFirst}
-use Rattle.std.proofs.lemmas.{Bool.Decides.nat_tests, Grind.get_or_default_zero, List.get_or_past}
-use Rattle.std.proofs.lemmas.List.Sums.{sum_by-le, sum_by-set}
-use Rattle.ffs_volume.proofs.ClimbLaws.{climb-zero, climb-one, climb-suc, climb-add, climb-last, cycle-along}
-use Rattle.ffs_volume.proofs.ClimbLaws.{cycle-next, cycle-goes, cycle-within, is_leader_within-from}
-use Rattle.ffs_volume.{proofs.ClimbLaws.is_leader_within-true, specs.Directories.Climb.{climb, IsOnCycle}}
-use Rattle.ffs_volume.specs.Directories.Climb.{is_leader_within}
+use Rattle.std.proofs.Common.{None, Some, arith, sym, ◌∙◌, ap, inl, inr, set, ◌⊎◌, get_or-set_same, All}
+use Rattle.std.proofs.{Common.{get_or-set_other, length-set, unwrap_or}, lemmas.Bool.{cases_eq, false_from_ne_true}}
+use Rattle.std.proofs.lemmas.{Bool.{both_ways, cases_lt, eqb-true, Decides.nat_tests}, Grind.get_or_default_zero}
+use Rattle.std.proofs.lemmas.List.{get_or_past, Sums.{sum_by-le, sum_by-set}}
+use Rattle.ffs_volume.specs.{Disk.Search.first_below, Directories.Climb.{is_value, climb, IsOnCycle, is_leader_within}}
+use Rattle.ffs_volume.proofs.ClimbLaws.{is_value-from, climb-zero, climb-one, climb-suc, climb-add, climb-last}
+use Rattle.ffs_volume.proofs.ClimbLaws.{cycle-along, cycle-next, cycle-goes, cycle-within, is_leader_within-from}
+use Rattle.ffs_volume.proofs.{ClimbLaws.is_leader_within-true, SearchLaws.{first_below-is, some_below-from}}
+use Rattle.ffs_volume.proofs.SearchLaws.{some_below-gives, IsFirst}
 use Rattle.ffs_connectivity.specs.Cycles.{parent_in, unmet, IsClosed, IsMet, Walked, FindsCycle, IsLeastOn}
 use Rattle.ffs_survey.specs.{Discover.bit, Survey.{bool_at, number_at}}
 

@@ -2,13 +2,12 @@
 
 ghost use Rattle.std.specs.Prelude.{◌≡◌, ◌<◌, ◌≤◌, ◌+◌, length, map};
 ghost use Rattle.ffs_report.specs.{Paid.Paid, Fails.FailsIn, PhaseOutcome.{ImageAfter, PhaseReports}};
-ghost use Rattle.ffs_image.specs.Known.{ForBytes};
 ghost use Rattle.ffs_report.specs.Progress.{progress};
+ghost use Rattle.ffs_image.specs.Known.{ForBytes};
 ghost use Rattle.ffs_volume.specs.{Directories.Volumes.volume_of, Messages.Kinds.of_tree};
-ghost use Rattle.ffs_workspace.specs.{Found.WithSurvey, Ready.LeavesAllButWindows, Tables.IsTableSector};
-ghost use Rattle.ffs_volume.specs.Directories.Connectivity.{unref_dir_lines};
-ghost use Rattle.ffs_volume.specs.{declared.Layout.Layout, Blocks.Inodes.inodes_of};
-ghost use Rattle.ffs_workspace.specs.Lengths.{IsFor};
+ghost use Rattle.ffs_volume.specs.{Directories.Connectivity.unref_dir_lines, declared.Layout.Layout};
+ghost use Rattle.ffs_volume.specs.Blocks.Inodes.{inodes_of};
+ghost use Rattle.ffs_workspace.specs.{Found.WithSurvey, Ready.LeavesAllButWindows, Tables.IsTableSector, Lengths.IsFor};
 ghost use Rattle.ffs_connectivity.specs.{BeforeFault.FailsBeforeUnref, Phase3.{CanReportUnref, is_unref_by}};
 
 use ffs_image::Image;

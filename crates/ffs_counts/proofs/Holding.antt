@@ -1,21 +1,20 @@
 -- What a workspace holds where only its windows have changed, and the lines of an inode by it.
 use Rattle.std.proofs.Common.{◌≡◌, ℕ, ℤ, zero, suc, ◌+◌, ◌-◌, ◌<◌, ◌≤◌, Bool, true, false, List, [], ◌||◌}
 use Rattle.std.proofs.Common.{if◌then◌else◌, length, map, refl, ap, ◌∙◌, sym, slice_index, vec_len, drop, take, arith}
-use Rattle.std.{proofs.Common.{SFits}, specs.{List.slice_index_or, Int.w16, declared.{alloc.Global.Global, vec.Vec.Vec}}}
+use Rattle.std.{proofs.Common.SFits, specs.{List.slice_index_or, Int.w16, declared.{alloc.Global.Global, vec.Vec.Vec}}}
 use Rattle.std.proofs.lemmas.{Bool.Decides.nat_tests, List.{get_or-drop, get_or-take, length-drop, length-take-le}}
 use Rattle.std.proofs.lemmas.{List.get_or_read, Int.to_z_pos, Bool.{and_parts, cases_lt, eqb-true}}
 use Rattle.ffs_survey.specs.Survey.{suspect_at}
 use Rattle.ffs_volume.specs.declared.{Attr.Attr, Inode.Inode, Label.Label, Layout.Layout}
-use Rattle.ffs_volume.specs.declared.{constants.TheConstants.LINKS_MET}
-use Rattle.ffs_volume.specs.{Directories.Connectivity.is_dead, Encodings.Links.{links_start, start_at}}
-use Rattle.ffs_volume.specs.Blocks.Inodes.{inode_of, inode_from_bytes, is_allocated, inodes_of}
-use Rattle.ffs_volume.specs.Directories.PathnameCheck.{attributes, attributes_of, label_of}
-use Rattle.ffs_volume.specs.Directories.ReferenceCheck.{inode_reference_lines, reference_lines, reference_lines_at}
-use Rattle.ffs_volume.specs.Directories.{Roles.{is_allocated_inode, is_inode, references}, Volumes.class_at}
-use Rattle.ffs_volume.specs.{Directories.Volumes.{marked_at, volume_of, volume_with}, Disk.Numbers.i16_at}
-use Rattle.ffs_volume.specs.{Encodings.Kinds.{kind_at, class_of_kind, is_empty_dir_kind}, Messages.Kinds.Message}
-use Rattle.ffs_volume.{specs.Messages.Kinds.{TreeMessage, of_tree, lines_from}, proofs.LinkLaws.{links_met}}
-use Rattle.ffs_volume.proofs.Numbered.{all_from}
+use Rattle.ffs_volume.specs.{declared.constants.TheConstants.LINKS_MET, Directories.Connectivity.is_dead}
+use Rattle.ffs_volume.specs.{Encodings.Links.{links_start, start_at}, Blocks.Inodes.{inode_of, inode_from_bytes}}
+use Rattle.ffs_volume.specs.{Blocks.Inodes.{is_allocated, inodes_of}, Directories.PathnameCheck.attributes}
+use Rattle.ffs_volume.specs.Directories.{PathnameCheck.{attributes_of, label_of}, ReferenceCheck.inode_reference_lines}
+use Rattle.ffs_volume.specs.Directories.{ReferenceCheck.{reference_lines, reference_lines_at}, Roles.is_allocated_inode}
+use Rattle.ffs_volume.specs.Directories.{Roles.{is_inode, references}, Volumes.{class_at, marked_at, volume_of}}
+use Rattle.ffs_volume.specs.{Directories.Volumes.volume_with, Disk.Numbers.i16_at, Encodings.Kinds.kind_at}
+use Rattle.ffs_volume.specs.{Encodings.Kinds.{class_of_kind, is_empty_dir_kind}, Messages.Kinds.{Message, TreeMessage}}
+use Rattle.ffs_volume.{specs.Messages.Kinds.{of_tree, lines_from}, proofs.{LinkLaws.links_met, Numbered.all_from}}
 use Rattle.ffs_workspace.specs.{declared.workspace.Workspace.Workspace, Holds.{HoldsBlockCheck, HoldsFindings, bool_at}}
 use Rattle.ffs_workspace.proofs.KindLaws.{suspect_is, some_is}
 use Rattle.ffs_counts.{specs.References.{reference_reported, is_dead_by, is_right_by}, proofs.Classes.same_test}

@@ -1,12 +1,11 @@
 -- How many fragments are claimed, by a map that has the reserved ones.
-use Rattle.std.proofs.Common.{◌≡◌, ℕ, zero, suc, ◌+◌, ◌<◌, Bool, true, cond, not, ◌&&◌, List, count_by, arith}
-use Rattle.std.{proofs.{Common.{refl, [], ◌∷◌}, lemmas.List.Sums.sum_by-cons}, specs.List.range_with_len}
-use Rattle.std.proofs.lemmas.{List.FromFn.get_or-map-range_with_len}
+use Rattle.std.proofs.Common.{◌≡◌, ℕ, zero, suc, ◌+◌, ◌<◌, Bool, true, cond, not, ◌&&◌, List, count_by, arith, refl, []}
+use Rattle.std.{proofs.{Common.◌∷◌, lemmas.List.Sums.sum_by-cons}, specs.List.range_with_len}
+use Rattle.std.proofs.lemmas.List.FromFn.{get_or-map-range_with_len}
 use Rattle.ffs_volume.specs.{declared.{Layout.Layout, Step.Step}, Report.Whole.claimed_count, Blocks.Claims.is_set}
-use Rattle.ffs_volume.specs.Blocks.Claims.{Claims, no_claims, reserved_map, after_offer, after_offers}
-use Rattle.ffs_volume.specs.Blocks.Claims.{after_step, after_steps, after_owner, after_owners, all_claims}
-use Rattle.ffs_volume.{specs.{Disk.Areas.is_reserved, Blocks.Owners.Owner}, proofs.Flags.set_kept}
-use Rattle.ffs_volume.proofs.Potentials.{cond_holds}
+use Rattle.ffs_volume.specs.Blocks.Claims.{Claims, no_claims, reserved_map, after_offer, after_offers, after_step}
+use Rattle.ffs_volume.specs.{Blocks.Claims.{after_steps, after_owner, after_owners, all_claims}, Disk.Areas.is_reserved}
+use Rattle.ffs_volume.{specs.Blocks.Owners.Owner, proofs.{Flags.set_kept, Potentials.cond_holds}}
 use Rattle.ffs_counts.specs.Reserved.{HasReserved, claimed_in}
 
 -- ---- the claimed ones

@@ -1,14 +1,13 @@
 -- A target found in a workspace that holds what phase 1 leaves: what its faults, and its lines, say of the command.
 use Rattle.std.proofs.Common.{◌≡◌, ◌+◌, ◌≤◌, ℕ, Option, Err, refl}
-use Rattle.ffs_image.specs.Device.{Device, ForContents}
+use Rattle.ffs_image.specs.{Device.{Device, ForContents}, Known.ForBytes}
 use Rattle.ffs_memory.specs.Account.{Account}
-use Rattle.ffs_volume.specs.{Disk.Superblock.Superblock}
-use Rattle.ffs_image.specs.Known.{ForBytes}
+use Rattle.ffs_volume.specs.Disk.Superblock.{Superblock}
 use Rattle.ffs_report.specs.declared.fault.RunFault.{RunFault, TheVariants.{Read, Out}}
 use Rattle.ffs_workspace.specs.{declared.workspace.Workspace.Workspace, Holds.HoldsPhase1}
 use Rattle.ffs_finding.specs.declared.find.FindFault.{FindFault, TheVariants.{Refused, Failed, NoMemory}}
-use Rattle.ffs_finding.specs.{declared.request.Target.Target, Claims.{TakesClaims, WithBlocks}, Fields.WithSuper, Outcome.Finds}
-use Rattle.ffs_finding.{specs.Headline.{FindsTarget, IsSectorFor, target_lines, target_reads}}
+use Rattle.ffs_finding.specs.{declared.request.Target.Target, Claims.{TakesClaims, WithBlocks}, Fields.WithSuper}
+use Rattle.ffs_finding.specs.{Outcome.Finds, Headline.{FindsTarget, IsSectorFor, target_lines, target_reads}}
 use Rattle.ffs_finding.proofs.Printing.{first_knowing, reads_first}
 use Rattle.ffs_check.specs.Moment.{Moment}
 

@@ -1,19 +1,13 @@
 -- How the lines of an inode are found.
 use Rattle.std.proofs.Common.{◌≡◌, ◌∙◌, ℕ, ◌+◌, ◌<◌, ◌≤◌, List, Result, Ok, Err, slice_index, arith, ap}
-use Rattle.ffs_image.specs.Device.{Device}
-use Rattle.ffs_volume.specs.{Blocks.{KeptSteps.claims_before}, Laws.Geometry.IsAcceptedLayout}
-use Rattle.ffs_volume.specs.{declared.{Layout.Layout}, Find.Owner.keeper_lines_of_inode}
-use Rattle.ffs_report.specs.Sink.{Sink}
-use Rattle.ffs_image.specs.Known.{ForBytes, IsContents}
-use Rattle.ffs_report.specs.declared.fault.RunFault.{RunFault, TheVariants.{Read, Out}}
-use Rattle.ffs_workspace.specs.Ready.{LeavesAllButWindows}
-use Rattle.ffs_finding.specs.Claims.{WithBlocks}
-use Rattle.ffs_volume.specs.{Blocks.Inodes.inodes_of, Encodings.Notes.{note_at}}
-use Rattle.ffs_workspace.specs.declared.workspace.{Workspace.Workspace}
+use Rattle.ffs_image.specs.{Device.Device, Known.{ForBytes, IsContents}}
+use Rattle.ffs_volume.specs.{Blocks.KeptSteps.claims_before, Laws.Geometry.IsAcceptedLayout, declared.Layout.Layout}
+use Rattle.ffs_volume.specs.{Find.Owner.keeper_lines_of_inode, Blocks.Inodes.inodes_of, Encodings.Notes.note_at}
+use Rattle.ffs_report.specs.{Sink.Sink, declared.fault.RunFault.{RunFault, TheVariants.{Read, Out}}}
+use Rattle.ffs_workspace.specs.{Ready.LeavesAllButWindows, declared.workspace.Workspace.Workspace}
+use Rattle.ffs_finding.specs.{Claims.WithBlocks, Keepers.{FindsKeeper, sought_in}, Outcome.PrintsLines}
+use Rattle.ffs_finding.proofs.{Owners.{listed_inode, inode_runs}, Printing.knowing}
 use Rattle.ffs_check.specs.Moment.{Moment}
-use Rattle.ffs_finding.specs.{Keepers.{FindsKeeper, sought_in}, Outcome.PrintsLines}
-use Rattle.ffs_finding.proofs.Owners.{listed_inode}
-use Rattle.ffs_finding.proofs.{Owners.inode_runs, Printing.knowing}
 
 -- lines that are the same
 pub same_lines : {T : Type 0} (knows : List ℕ → Type 0) (all all' : List ℕ → List (List ℕ)) (a b : Sink)

@@ -1,8 +1,7 @@
 -- A line of a report by itself.
-use Rattle.std.proofs.Common.{arith}
-use Rattle.std.proofs.Common.{◌≡◌, [], ◌∷◌, false, append-nil, Result, Ok, Err}
+use Rattle.std.proofs.Common.{arith, ◌≡◌, [], ◌∷◌, false, append-nil, Result, Ok, Err}
 use Rattle.ffs_volume.specs.Messages.{Kinds.Message, Texts.text_of}
-use Rattle.ffs_report.specs.{Progress.{Progress, Says}, Sink.{Prints}}
+use Rattle.ffs_report.specs.{Progress.{Progress, Says}, Sink.Prints}
 
 -- a line that is the first one was printed, or the output failed in it
 pub said_prints : {T E : Type 0} (a b : Progress) (m : Message) (r : Result T E) → a.failed ≡ false →

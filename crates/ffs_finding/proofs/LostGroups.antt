@@ -1,16 +1,14 @@
 -- What the maps of groups say wrongly: of one group by what the program has of its map, and of all groups.
 use Rattle.std.proofs.Common.{◌≡◌, ◌∙◌, ℕ, ◌+◌, ◌-◌, ◌<◌, ◌≤◌, Bool, true, false, List, [], ◌++◌, arith, refl, sym}
 use Rattle.std.{proofs.Common.subst, specs.List.{flat_map, range_with_len}}
-use Rattle.ffs_image.specs.Device.{Device}
+use Rattle.ffs_image.specs.{Device.Device, Known.ForBytes}
 use Rattle.ffs_volume.specs.{declared.Layout.Layout, Disk.Areas.cgbase, Groups.Records.{bit_at, fragment_map_place}}
 use Rattle.ffs_volume.{specs.Groups.Records.{group_block, group_size, has_bits, same_bit}, proofs.Below.all_below-at}
 use Rattle.ffs_volume.specs.{Find.Lost.{has_map, lost_lines, stretch_lines}, Blocks.Claims.all_claims}
 use Rattle.ffs_groups.specs.Free.{free_in}
 use Rattle.ffs_maps.specs.Bits.{bits_of}
-use Rattle.ffs_image.specs.Known.{ForBytes}
 use Rattle.ffs_workspace.specs.declared.workspace.Workspace.{Workspace}
-use Rattle.ffs_finding.specs.Claims.{WithBlocks}
-use Rattle.ffs_finding.specs.LostMaps.{is_wrong_by, lines_of_group, lines_of_groups, word_of}
+use Rattle.ffs_finding.specs.{Claims.WithBlocks, LostMaps.{is_wrong_by, lines_of_group, lines_of_groups, word_of}}
 use Rattle.ffs_finding.{specs.declared.lost.Wrong.{Wrong, TheVariants.{Lost, MarkedFree}}, proofs.Ranges.{next, none}}
 
 pub with_map : (how : Wrong) (v : Layout) (used : List Bool) (size base end place c : ℕ) (block : List ℕ) →

@@ -1,15 +1,13 @@
 -- The lines of lost fragments and of those that are marked as free, one list after the other.
 use Rattle.std.proofs.Common.{◌≡◌, ℕ, Bool, List, [], ◌++◌, append_assoc, append-nil, arith, Ok, Err, refl, sym}
 use Rattle.std.specs.{List.concat, Prelude.◌||◌}
-use Rattle.ffs_image.specs.Device.{Device}
+use Rattle.ffs_image.specs.{Device.Device, Known.{ForBytes, IsContents}}
 use Rattle.ffs_volume.specs.{declared.Layout.Layout, Find.Lost.lost_lines}
 use Rattle.ffs_groups.specs.Free.{free_in}
 use Rattle.ffs_maps.specs.Bits.{bits_of}
 use Rattle.ffs_report.{specs.{Sink.Sink, declared.fault.RunFault.RunFault}, proofs.Sinks.took_then}
-use Rattle.ffs_image.specs.Known.{ForBytes, IsContents}
 use Rattle.ffs_workspace.specs.declared.workspace.Workspace.{Workspace}
-use Rattle.ffs_finding.specs.Claims.{WithBlocks}
-use Rattle.ffs_finding.specs.{Outcome.{PrintedOf, PrintsLines, any_line}, LostMaps.lines_of_groups}
+use Rattle.ffs_finding.specs.{Claims.WithBlocks, Outcome.{PrintedOf, PrintsLines, any_line}, LostMaps.lines_of_groups}
 use Rattle.ffs_finding.{specs.declared.lost.Wrong.TheVariants.{Lost, MarkedFree}, proofs.LostGroups.both}
 use Rattle.ffs_finding.proofs.Printing.{PrintedWhether, any_more, begins, concat-append, knowing, part, part_fault}
 

@@ -1,10 +1,9 @@
 -- How lines are printed, one after another.
 use Rattle.std.proofs.Common.{◌≡◌, refl, ◌∙◌, sym, ℕ, List, [], ◌∷◌, ◌++◌, append_assoc, append-nil, Result, Ok, Err}
 use Rattle.std.{proofs.Common.{arith, Bool, true}, specs.{List.concat, Prelude.◌||◌}}
-use Rattle.ffs_report.specs.{Sink.{Sink, Took, BrokeOff}, declared.fault.RunFault.RunFault}
+use Rattle.ffs_report.specs.{Sink.{Sink, Took, BrokeOff}, declared.fault.RunFault.{RunFault, TheVariants.{Read, Out}}}
+use Rattle.ffs_report.proofs.Sinks.{took_nil, took_then, broke_off_after}
 use Rattle.ffs_image.specs.Known.{ForBytes}
-use Rattle.ffs_report.{specs.declared.fault.RunFault.TheVariants.{Read, Out}, proofs.Sinks.{took_nil, took_then}}
-use Rattle.ffs_report.proofs.Sinks.{broke_off_after}
 use Rattle.ffs_finding.specs.Outcome.{FirstLines, PrintedOf, PrintsLines, any_line}
 
 -- the bytes of lines and of others after them

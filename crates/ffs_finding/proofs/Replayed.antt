@@ -1,16 +1,14 @@
 -- The lines of an inode that is walked over again, Run by Run.
-use Rattle.std.proofs.Common.{◌≡◌, ℕ, zero, suc, ◌+◌, ◌≤◌, true, ◌==◌, List, [], ◌∷◌, ◌++◌}
-use Rattle.std.proofs.Common.{map, arith, refl, ap, ◌∙◌, inl, inr, Option, None, Some, append-nil}
-use Rattle.std.{proofs.lemmas.Bool.{cases_Bool, Decides.nat_tests}, specs.List.{concat, list_any, range_with_len}}
+use Rattle.std.proofs.Common.{◌≡◌, ℕ, zero, suc, ◌+◌, ◌≤◌, true, ◌==◌, List, [], ◌∷◌, ◌++◌, map, arith, refl, ap, ◌∙◌}
+use Rattle.std.proofs.{Common.{inl, inr, Option, None, Some, append-nil}, lemmas.Bool.{cases_Bool, Decides.nat_tests}}
+use Rattle.std.specs.List.{concat, list_any, range_with_len}
 use Rattle.ffs_volume.proofs.ReplayIsKeeping.{replay_of, seen_replays, step_replays, step_few}
 use Rattle.ffs_volume.specs.Blocks.Claims.{Claims, at_next_inode, is_open, after_step, after_steps}
-use Rattle.ffs_volume.specs.Blocks.KeptOffers.{kept_in_step, offer_of}
-use Rattle.ffs_volume.specs.Encodings.Replay.{fresh_replay, cut_of}
-use Rattle.ffs_volume.specs.{declared.{Layout.Layout, Step.{Step, TheVariants.{Run}}}}
-use Rattle.ffs_volume.specs.Find.Owner.{indirect_in, keeper_lines_of_step, keeper_lines_of_steps}
-use Rattle.ffs_walk.specs.Keepings.{run_taken}
-use Rattle.ffs_walk.specs.{SeenRuns.{indirect_by, seen_runs, step_run}, declared.seen_runs.SeenRun.SeenRun}
-use Rattle.ffs_walk.specs.SeenRuns.{indirect_in_run}
+use Rattle.ffs_volume.specs.{Blocks.KeptOffers.{kept_in_step, offer_of}, Encodings.Replay.{fresh_replay, cut_of}}
+use Rattle.ffs_volume.specs.{declared.{Layout.Layout, Step.{Step, TheVariants.Run}}, Find.Owner.indirect_in}
+use Rattle.ffs_volume.specs.Find.Owner.{keeper_lines_of_step, keeper_lines_of_steps}
+use Rattle.ffs_walk.specs.{Keepings.run_taken, SeenRuns.{indirect_by, seen_runs, step_run, indirect_in_run}}
+use Rattle.ffs_walk.specs.declared.seen_runs.SeenRun.{SeenRun}
 use Rattle.ffs_claims.{specs.RescanRuns.offers_of_runs, proofs.RescanCounts.step_again}
 use Rattle.ffs_finding.specs.{Keepers.{is_in_run, lines_of_runs, lines_of_run, run_text}, declared.owner.Sought.Sought}
 

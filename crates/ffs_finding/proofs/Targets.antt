@@ -2,19 +2,17 @@
 use Rattle.std.proofs.Common.{◌≡◌, ◌*◌, ◌+◌, ◌≤◌, ℕ, Bool, List, Option, Result, Ok, Err, sym, ap, arith, inl, inr}
 use Rattle.std.{proofs.Common.{refl, is_ok}, specs.Prelude.⊤}
 use Rattle.ffs_check.specs.{Moment.Moment, Taken.AsksMemory}
-use Rattle.ffs_image.specs.Device.{Device, ForContents}
+use Rattle.ffs_image.specs.{Device.{Device, ForContents}, Known.ForBytes}
 use Rattle.ffs_memory.specs.Account.{Account, RefusedOneMore}
-use Rattle.ffs_volume.specs.{declared.Layout.Layout, Disk.Superblock.Superblock}
-use Rattle.ffs_volume.specs.{Disk.Outcome.outcome, Laws.Geometry.IsAcceptedLayout}
+use Rattle.ffs_volume.specs.{declared.Layout.Layout, Disk.{Superblock.Superblock, Outcome.outcome}}
+use Rattle.ffs_volume.specs.{Laws.Geometry.IsAcceptedLayout, Report.Reads.opening_reads}
 use Rattle.ffs_report.specs.{Sink.Sink, declared.fault.RunFault.TheVariants.{Read, Out}}
-use Rattle.ffs_image.specs.Known.{ForBytes}
 use Rattle.ffs_finding.specs.declared.find.FindFault.{FindFault, TheVariants.{Refused, Failed, NoMemory}}
 use Rattle.ffs_finding.specs.declared.request.Target.{Target, TheVariants.{Inode, Fields, Lost, Owner}}
-use Rattle.ffs_finding.specs.{declared.request.Command.TheVariants.InVolume}
-use Rattle.ffs_finding.specs.Headline.{AnswersCommand, AnswersWith, FindsTarget, GroundsOf, IsAcceptedIn, IsGranted}
-use Rattle.ffs_finding.specs.Headline.{IsReadFor, IsRefusedBy, IsSectorFor, TakesForTarget, TakesMemory}
-use Rattle.ffs_finding.{specs.Headline.{PrintedAll, lines_by, target_lines}, proofs.Printing.{first_knowing, printed_knowing}}
-use Rattle.ffs_volume.specs.Report.Reads.{opening_reads}
+use Rattle.ffs_finding.specs.{declared.request.Command.TheVariants.InVolume, Headline.{AnswersCommand, AnswersWith}}
+use Rattle.ffs_finding.specs.Headline.{FindsTarget, GroundsOf, IsAcceptedIn, IsGranted, IsReadFor, IsRefusedBy}
+use Rattle.ffs_finding.specs.Headline.{IsSectorFor, TakesForTarget, TakesMemory, PrintedAll, lines_by, target_lines}
+use Rattle.ffs_finding.proofs.Printing.{first_knowing, printed_knowing}
 
 -- memory was refused, where the answer says so
 refused : (target : Target) (v : Layout) (held held' : Account) → TakesForTarget target v held held' (Err NoMemory) →

@@ -1,11 +1,10 @@
 -- How the walk over the blocks of an inode continues, and how many steps it has at most.
-use Rattle.std.proofs.Common.{◌≡◌, ℕ, ◌+◌, ◌*◌, ◌-◌, ◌<◌, ◌≤◌, ◌^◌, arith, List, Option}
-use Rattle.std.proofs.lemmas.Nat.{mul-le}
+use Rattle.std.proofs.{Common.{◌≡◌, ℕ, ◌+◌, ◌*◌, ◌-◌, ◌<◌, ◌≤◌, ◌^◌, arith, List, Option}, lemmas.Nat.mul-le}
 use Rattle.ffs_image.specs.Device.{Device}
 use Rattle.ffs_layout.specs.declared.geometry.Geometry.{Geometry}
 use Rattle.ffs_walk.specs.{declared.{blocks.Blocks.Blocks, walk.Walk.Walk}, Windows.{CanWalk, KeepsBlocks}}
-use Rattle.ffs_walk.specs.{Fits.IsSpent, Frames.frame_left, declared.frame.Frame.Frame, Rests.IsAtTop}
-use Rattle.ffs_walk.specs.Rests.{most_at, most_steps_left}
+use Rattle.ffs_walk.specs.{Fits.IsSpent, Frames.frame_left, declared.frame.Frame.Frame, Rests.{IsAtTop, most_at}}
+use Rattle.ffs_walk.specs.Rests.{most_steps_left}
 
 -- at most how many steps lie under an address, by the words of a block
 most_under : (n m1 m2 m3 : ℕ) → n ≤ 16384 → m1 ≡ 2 + n * 1 → m2 ≡ 2 + n * m1 → m3 ≡ 2 + n * m2 → m3 ≤ 4398583414786

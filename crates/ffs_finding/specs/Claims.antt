@@ -1,12 +1,11 @@
 -- What phase 1 leaves where it is run for the fragments that inodes claim, and what of that is asked for.
 use Rattle.std.specs.Prelude.{◌≡◌, ℕ, List, None, Result, Ok, Err, slice_index}
-use Rattle.ffs_image.specs.Device.{Device, Faulted, ForContents}
+use Rattle.ffs_image.specs.{Device.{Device, Faulted, ForContents}, Known.IsContents}
 use Rattle.ffs_volume.specs.{declared.Layout.Layout, Blocks.Claims.all_claims, Encodings.{Kinds.kind_at, Notes.note_at}}
 use Rattle.ffs_volume.specs.Report.Memory.{held_of}
 use Rattle.ffs_maps.specs.Bits.{bits_of}
 use Rattle.ffs_memory.specs.Account.{Account, Granted, GaveUp}
 use Rattle.ffs_report.specs.{Sink.Sink, declared.fault.RunFault.TheVariants.{Read, Out}}
-use Rattle.ffs_image.specs.Known.{IsContents}
 use Rattle.ffs_workspace.specs.{declared.workspace.Workspace.Workspace, Holds.HoldsPhase1, Ready.IsReady}
 use Rattle.ffs_finding.specs.declared.find.FindFault.{FindFault, TheVariants.{Refused, Failed, NoMemory}}
 

@@ -1,8 +1,7 @@
 -- A field of the superblock as the program has it.
 use Rattle.std.specs.{Prelude.{◌≡◌, ℕ, List, Option, Ok}, List.flat_map}
-use Rattle.ffs_image.specs.Device.{Device}
+use Rattle.ffs_image.specs.{Device.Device, Known.IsContents}
 use Rattle.ffs_volume.specs.Disk.{Superblock.Superblock, Outcome.outcome}
-use Rattle.ffs_image.specs.Known.{IsContents}
 use Rattle.ffs_finding.specs.declared.fields.Field.{Field}
 use Rattle.ffs_volume.specs.Find.Fields as book
 

@@ -2,25 +2,23 @@
 -- `FindsCommand`, below: `AnswersWith` says what is printed by an answer, and `EndsBy` how that ends.
 use Rattle.std.specs.Prelude.{◌≡◌, ◌⊎◌, ◌≤◌, ◌+◌, ◌*◌, ◌/◌, ℕ, Bool, true, false, ◌&&◌, List, [], if◌then◌else◌, Option}
 use Rattle.std.specs.Prelude.{Result, Ok, Err, IsOk, IfOk, ⊤}
-use Rattle.ffs_image.specs.Device.{Device, ForContents}
-use Rattle.ffs_volume.specs.{declared.{Layout.Layout, SuperFault.{SuperFault, TheVariants.CannotRead}}, Laws.Geometry.IsAcceptedLayout}
-use Rattle.ffs_volume.specs.{declared.constants.TheConstants.DEV_BSIZE, Disk.{Areas.inode_place, Superblock.Superblock}}
-use Rattle.ffs_volume.specs.{Disk.Outcome.{outcome, super_sector}, Messages.Kinds.{cannot_read, cannot_alloc}}
-use Rattle.ffs_volume.specs.{Messages.Texts.text_of, Report.{Opening.fault_line, Reads.{opening_reads, scan_reads}}}
-use Rattle.ffs_volume.specs.{Report.Reads.sweep_reads, Find.{Copies.copies_lines, InodeText.inode_listing}}
-use Rattle.ffs_volume.specs.Find.{Fields.wrong_fields, Lost.lost_lines, Owner.lines_of_fragment}
-use Rattle.ffs_volume.specs.Report.Memory.{held_of}
+use Rattle.ffs_image.specs.{Device.{Device, ForContents}, Known.IsContents}
+use Rattle.ffs_volume.specs.declared.{Layout.Layout, SuperFault.{SuperFault, TheVariants.CannotRead}}
+use Rattle.ffs_volume.specs.{Laws.Geometry.IsAcceptedLayout, declared.constants.TheConstants.DEV_BSIZE}
+use Rattle.ffs_volume.specs.Disk.{Areas.{inode_place, FitsIn}, Superblock.Superblock, Outcome.{outcome, super_sector}}
+use Rattle.ffs_volume.specs.{Messages.{Kinds.{cannot_read, cannot_alloc}, Texts.text_of}, Report.Opening.fault_line}
+use Rattle.ffs_volume.specs.{Report.Reads.{opening_reads, scan_reads, sweep_reads}, Find.Copies.copies_lines}
+use Rattle.ffs_volume.specs.Find.{InodeText.inode_listing, Fields.wrong_fields, Lost.lost_lines}
+use Rattle.ffs_volume.specs.{Find.Owner.lines_of_fragment, Report.Memory.held_of}
 use Rattle.ffs_report.specs.{Sink.Sink, declared.fault.RunFault.TheVariants.{Read, Out}}
-use Rattle.ffs_image.specs.Known.{IsContents}
 use Rattle.ffs_memory.specs.Account.{Account, Granted, GaveUp, RefusedOneMore}
 use Rattle.ffs_check.specs.{Moment.Moment, Run.IsPrintedOrBrokeOff, Taken.{AsksMemory, Takes}}
 use Rattle.ffs_layout.specs.Super.{IsUnreadable, ReadsSuper}
 use Rattle.ffs_finding.specs.declared.request.Target.{Target, TheVariants.{Inode, Fields, Lost, Owner}}
 use Rattle.ffs_finding.specs.declared.request.Command.{Command, TheVariants.{Copies, InVolume}}
 use Rattle.ffs_finding.specs.declared.find.FindFault.{FindFault, TheVariants.{Refused, Failed, NoMemory}}
-use Rattle.ffs_finding.specs.{Outcome.{Finds, PrintedOf, any_line}, Fields.WithSuper}
-use Rattle.ffs_finding.specs.{Copies.{FailsBeforeCopy, ReadsCopies, window_bytes}}
-use Rattle.ffs_volume.specs.Disk.Areas.{FitsIn}
+use Rattle.ffs_finding.specs.{Outcome.{Finds, PrintedOf, any_line}, Fields.WithSuper, Copies.FailsBeforeCopy}
+use Rattle.ffs_finding.specs.Copies.{ReadsCopies, window_bytes}
 use Rattle.ffs_workspace.specs.Ready.{workspace_requests}
 
 -- what is printed of a target in an image with this accepted superblock

@@ -1,21 +1,18 @@
 -- What the program knows of the inodes that keep an offer of a fragment, and what its parts leave.
-use Rattle.std.specs.Prelude.{◌≡◌, ◌+◌, ◌<◌, ◌≤◌, ℕ, Bool, ◌&&◌, List, [], ◌∷◌, ◌++◌, length}
-use Rattle.std.specs.Prelude.{if◌then◌else◌, nat_le, nat_lt, slice_index, vec_len, Result}
-use Rattle.ffs_volume.specs.declared.{Inode.Inode, Layout.Layout, Step.Step}
-use Rattle.ffs_volume.specs.{Blocks.{Inodes.{inode_of, inodes_of}, Steps.steps_of}, Encodings.Replay.fresh_replay}
-use Rattle.ffs_volume.specs.{Encodings.ReplayCounts.replayed_runs, Report.Whole.run_count, Groups.Records.group_block}
-use Rattle.ffs_volume.specs.Find.Owner.{group_of_fragment, keeper_lines, keeper_text, map_text}
-use Rattle.ffs_volume.specs.Encodings.Notes.{cut_in}
-use Rattle.ffs_image.specs.Device.{Device, ForContents}
-use Rattle.ffs_report.specs.declared.fault.RunFault.{RunFault}
-use Rattle.ffs_image.specs.Known.{ForBytes, IsContents}
-use Rattle.ffs_walk.specs.{SeenRuns.{indirect_in_run, seen_runs}, Windows.WindowHolds, declared.seen_runs.SeenRun.SeenRun}
-use Rattle.ffs_walk.specs.declared.window.Window.{Window}
-use Rattle.ffs_workspace.specs.{Ready.CanRead, declared.workspace.Workspace.Workspace}
-use Rattle.ffs_finding.specs.Claims.{WithBlocks}
-use Rattle.ffs_check.specs.Moment.{Moment}
-use Rattle.ffs_finding.specs.{Outcome.Finds, declared.owner.Sought.Sought}
+use Rattle.std.specs.Prelude.{◌≡◌, ◌+◌, ◌<◌, ◌≤◌, ℕ, Bool, ◌&&◌, List, [], ◌∷◌, ◌++◌, length, if◌then◌else◌, nat_le}
+use Rattle.std.specs.Prelude.{nat_lt, slice_index, vec_len, Result}
+use Rattle.ffs_volume.specs.{declared.{Inode.Inode, Layout.Layout, Step.Step}, Blocks.Inodes.{inode_of, inodes_of}}
+use Rattle.ffs_volume.specs.{Blocks.Steps.steps_of, Encodings.{Replay.fresh_replay, ReplayCounts.replayed_runs}}
+use Rattle.ffs_volume.specs.{Report.Whole.run_count, Groups.Records.group_block, Find.Owner.group_of_fragment}
+use Rattle.ffs_volume.specs.{Find.Owner.{keeper_lines, keeper_text, map_text}, Encodings.Notes.cut_in}
 use Rattle.ffs_volume.specs.Disk.Areas.{FitsIn}
+use Rattle.ffs_image.specs.{Device.{Device, ForContents}, Known.{ForBytes, IsContents}}
+use Rattle.ffs_report.specs.declared.fault.RunFault.{RunFault}
+use Rattle.ffs_walk.specs.{SeenRuns.{indirect_in_run, seen_runs}, Windows.WindowHolds}
+use Rattle.ffs_walk.specs.declared.{seen_runs.SeenRun.SeenRun, window.Window.Window}
+use Rattle.ffs_workspace.specs.{Ready.CanRead, declared.workspace.Workspace.Workspace}
+use Rattle.ffs_finding.specs.{Claims.WithBlocks, Outcome.Finds, declared.owner.Sought.Sought}
+use Rattle.ffs_check.specs.Moment.{Moment}
 
 -- ---- the map of a group
 -- what the map of its group says of the fragment f can be printed: the volume has f, and its group block is there

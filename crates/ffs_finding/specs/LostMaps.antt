@@ -1,18 +1,17 @@
 -- The map of a group as the program compares it with what is used, and what it prints of it.
 use Rattle.std.specs.Prelude.{◌≡◌, ◌≤◌, ◌<◌, ◌+◌, ◌-◌, ℕ, Bool, not, ◌&&◌, List, [], ◌∷◌, codes, length, Result}
 use Rattle.std.specs.{Prelude.vec_len, List.flat_map, Int.div_ceil}
-use Rattle.ffs_image.specs.Device.{Device}
+use Rattle.ffs_image.specs.{Device.Device, Known.IsContents}
 use Rattle.ffs_volume.specs.{declared.Layout.Layout, Groups.Records.{bit_at, group_block, group_numbers}}
 use Rattle.ffs_volume.specs.{Messages.Texts.number_text, Find.Lost.{lost_of_group, wrongly_free_of_group}}
+use Rattle.ffs_volume.specs.Disk.Areas.{FitsIn}
 use Rattle.ffs_maps.specs.Bits.{bits_of}
 use Rattle.ffs_groups.specs.Free.{free_in}
 use Rattle.ffs_report.specs.declared.fault.RunFault.{RunFault}
-use Rattle.ffs_image.specs.Known.{IsContents}
 use Rattle.ffs_walk.specs.{Windows.WindowHolds, declared.window.Window.Window}
 use Rattle.ffs_check.specs.Moment.{Moment}
 use Rattle.ffs_finding.specs.{Outcome.FindsAny, declared.lost.{ComparedMap.ComparedMap, Wrong.Wrong}}
 use Rattle.ffs_finding.specs.declared.lost.Wrong.TheVariants.{Lost, MarkedFree}
-use Rattle.ffs_volume.specs.Disk.Areas.{FitsIn}
 
 -- the word before the fragments about which a map is wrong in this way
 abbrev pub word_of : Wrong → List ℕ

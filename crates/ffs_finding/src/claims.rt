@@ -1,8 +1,7 @@
 //! The fragments that inodes claim: phase 1 of a check (fsck(8)), run for what it leaves.
 ghost use Rattle.std.specs.Prelude.{◌≡◌, ◌+◌, ◌*◌, ◌≤◌, Ok, length};
-ghost use Rattle.ffs_volume.specs.Report.Reads.{scan_reads};
+ghost use Rattle.ffs_volume.specs.{Report.Reads.scan_reads, Disk.Areas.FitsIn};
 ghost use Rattle.ffs_finding.specs.Claims.{TakesClaims, discarding};
-ghost use Rattle.ffs_volume.specs.Disk.Areas.{FitsIn};
 ghost use Rattle.ffs_workspace.specs.Ready.{workspace_requests};
 
 use crate::find::FindFault;

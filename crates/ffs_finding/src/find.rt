@@ -1,16 +1,15 @@
 //! Finds in an image what is asked for, and says how that ended.
 ghost use Rattle.std.specs.Prelude.{◌≡◌, ◌+◌, ◌*◌, ◌≤◌, ℕ, Option};
-ghost use Rattle.ffs_volume.specs.{Messages.Texts.text_of};
+ghost use Rattle.ffs_volume.specs.{Messages.Texts.text_of, Disk.Areas.FitsIn};
 ghost use Rattle.ffs_report.specs.{Lines.message_of, Sink.Prints};
 ghost use Rattle.ffs_layout.specs.Super.{superblock_in};
 ghost use Rattle.ffs_check.specs.Moment.{moment};
 ghost use Rattle.ffs_finding.specs.Headline.{AnswersCommand, EndsBy, FindsCommand, FindsTarget, TakesForTarget};
 ghost use Rattle.ffs_finding.specs.Headline.{command_requests, target_requests};
-ghost use Rattle.ffs_workspace.specs.Ready.{workspace_requests};
 ghost use Rattle.ffs_finding.specs.declared.find.FindFault.TheVariants.{Failed, NoMemory};
-ghost use Rattle.ffs_finding.specs.declared.request.Target.TheVariants.{Lost, Owner};
-ghost use Rattle.ffs_finding.specs.declared.request.Command.TheVariants.{Copies, InVolume};
-ghost use Rattle.ffs_volume.specs.Disk.Areas.{FitsIn};
+ghost use Rattle.ffs_finding.specs.declared.request.{Target.TheVariants.{Lost, Owner}, Command.TheVariants.Copies};
+ghost use Rattle.ffs_finding.specs.declared.request.Command.TheVariants.{InVolume};
+ghost use Rattle.ffs_workspace.specs.Ready.{workspace_requests};
 
 use crate::claims::claimed_workspace;
 use crate::copies::{WINDOW_BYTES, find_copies};

@@ -1,10 +1,9 @@
 //! A group block, and the map of fragments in it (fs(5)).
 ghost use Rattle.std.specs.Prelude.{◌≡◌, ◌+◌, ◌*◌, ◌/◌, ◌<◌, ◌≤◌, length};
-ghost use Rattle.ffs_volume.specs.{Disk.Areas.group_place, Groups.Records.bit_at};
+ghost use Rattle.ffs_volume.specs.{Disk.Areas.{group_place, FitsIn}, Groups.Records.bit_at};
 ghost use Rattle.ffs_image.specs.Reads.{ReadsAtMostOnce};
 ghost use Rattle.ffs_walk.specs.Windows.{FillsWindow, image_with};
 ghost use Rattle.ffs_finding.specs.{GroupMaps.IsMapPlace, LostMaps.IsBlockWindow};
-ghost use Rattle.ffs_volume.specs.Disk.Areas.{FitsIn};
 
 use ffs_image::{Image, ImageFault};
 use ffs_layout::{Geometry, Group};

@@ -1,15 +1,13 @@
 //! `inode`: where an inode lies, and what it says.
 ghost use Rattle.std.specs.Prelude.{◌≡◌, ◌+◌, ◌*◌, ◌/◌, ◌≤◌, ◌<◌};
-ghost use Rattle.ffs_image.specs.Reads.{ReadsAtMostOnce};
-ghost use Rattle.ffs_volume.specs.{Blocks.Inodes.{inode_from_bytes}, Disk.Areas.inode_place, Find.InodeText.place_text};
-ghost use Rattle.ffs_volume.specs.declared.constants.TheConstants.{DEV_BSIZE, DINODE_SIZE};
-ghost use Rattle.ffs_volume.specs.Find.InodeText.{numbers_text, address_text, addresses_text, bytes_text};
+ghost use Rattle.ffs_image.specs.{Reads.ReadsAtMostOnce, Known.IsContents};
+ghost use Rattle.ffs_volume.specs.{Blocks.Inodes.inode_from_bytes, Disk.Areas.{inode_place, FitsIn}};
+ghost use Rattle.ffs_volume.specs.Find.InodeText.{place_text, numbers_text, address_text, addresses_text, bytes_text};
 ghost use Rattle.ffs_volume.specs.Find.InodeText.{inode_listing, class_word, fifteen_text};
+ghost use Rattle.ffs_volume.specs.declared.constants.TheConstants.{DEV_BSIZE, DINODE_SIZE};
 ghost use Rattle.ffs_report.specs.{Fails.FailsIn, Sink.Prints};
-ghost use Rattle.ffs_image.specs.Known.{IsContents};
 ghost use Rattle.ffs_check.specs.Moment.{moment};
 ghost use Rattle.ffs_finding.specs.Outcome.{Finds};
-ghost use Rattle.ffs_volume.specs.Disk.Areas.{FitsIn};
 
 use ffs_image::Image;
 use ffs_layout::{Geometry, decode_inode};

@@ -1,19 +1,17 @@
 //! `owner`: to what a fragment belongs.
 ghost use Rattle.std.specs.Prelude.{◌≡◌, ◌+◌, ◌*◌, ◌/◌, ◌≤◌, ◌<◌, ◌^◌, length, true, slice_index, vec_len};
-ghost use Rattle.ffs_image.specs.Reads.{ReadsAtMostOnce};
-ghost use Rattle.ffs_volume.specs.{Disk.Areas.{group_place, is_reserved}, Blocks.Inodes.inode_of, Encodings.Kinds.is_allocated_kind};
-ghost use Rattle.ffs_volume.specs.{Report.Reads.sweep_reads, Groups.Records.bit_at};
-ghost use Rattle.ffs_volume.specs.Find.Owner.{keeper_text, keeper_lines, map_text, lines_of_fragment};
-ghost use Rattle.ffs_volume.specs.{Find.Owner.{part_text, reserved_text, table_text}, Encodings.Notes.cut_in};
+ghost use Rattle.ffs_image.specs.{Reads.ReadsAtMostOnce, Known.IsContents};
+ghost use Rattle.ffs_volume.specs.{Disk.Areas.{group_place, is_reserved}, Blocks.Inodes.inode_of};
+ghost use Rattle.ffs_volume.specs.{Encodings.Kinds.is_allocated_kind, Report.Reads.sweep_reads, Groups.Records.bit_at};
+ghost use Rattle.ffs_volume.specs.Find.Owner.{keeper_text, keeper_lines, map_text, lines_of_fragment, part_text};
+ghost use Rattle.ffs_volume.specs.{Find.Owner.{reserved_text, table_text}, Encodings.Notes.cut_in};
 ghost use Rattle.ffs_report.specs.Sink.{Prints};
-ghost use Rattle.ffs_image.specs.Known.{IsContents};
 ghost use Rattle.ffs_walk.specs.{SeenRuns.indirect_in_run, Windows.{CanWalk, KeepsBlocks}};
 ghost use Rattle.ffs_workspace.specs.Ready.{CanRead, IsReady, LeavesAllButWindows};
 ghost use Rattle.ffs_check.specs.Moment.{moment};
 ghost use Rattle.ffs_finding.specs.{Claims.WithBlocks, Outcome.Finds, Keepers.{CanFindKeeper, CanPrintMap, CanReadMap}};
-ghost use Rattle.ffs_finding.specs.LostMaps.{IsBlockWindow};
-ghost use Rattle.ffs_finding.specs.Keepers.{FindsKeeper, FindsAllKeepers, FindsKeptOffers, is_in_run, map_lines, run_text};
-ghost use Rattle.ffs_finding.specs.Keepers.{sought_in};
+ghost use Rattle.ffs_finding.specs.Keepers.{FindsKeeper, FindsAllKeepers, FindsKeptOffers, is_in_run, map_lines};
+ghost use Rattle.ffs_finding.specs.{Keepers.{run_text, sought_in}, LostMaps.IsBlockWindow};
 
 use crate::group_map::{is_marked_free, map_place};
 use ffs_image::{Image, LimitedImage};

@@ -1,7 +1,6 @@
 -- Laws of the reads that are still to come of a reading of entries.
-use Rattle.std.proofs.Common.{◌≡◌, ◌≤◌, ◌||◌, nat_lt, if◌then◌else◌, ℕ, Bool, true, false, List, Result}
-use Rattle.std.proofs.{Common.{arith, refl}, lemmas.Bool.{Decides.nat_tests, false≢true, ltb-false}}
-use Rattle.std.proofs.lemmas.Bool.{or_parts}
+use Rattle.std.proofs.Common.{◌≡◌, ◌≤◌, ◌||◌, nat_lt, if◌then◌else◌, ℕ, Bool, true, false, List, Result, arith, refl}
+use Rattle.std.proofs.lemmas.Bool.{Decides.nat_tests, false≢true, ltb-false, or_parts}
 use Rattle.ffs_image.specs.declared.image.ImageFault.{ImageFault}
 use Rattle.ffs_volume.proofs.Results.{on_any, on_ok}
 use Rattle.ffs_walk.specs.declared.{blocks.Blocks.Blocks, window.Window.Window}

@@ -1,6 +1,6 @@
 -- A directory of one chunk is known by where its only block is.
-use Rattle.std.proofs.Common.{◌≡◌, ℕ, zero, suc, ◌+◌, ◌*◌, ◌%◌, ◌<◌, ◌≤◌, ◌==◌, Bool, true, false, not, ◌&&◌, ◌||◌, List, []}
-use Rattle.std.proofs.Common.{◌∷◌, Some, arith, refl, ap, flat_map, if◌then◌else◌, mod-eq_of_lt}
+use Rattle.std.proofs.Common.{◌≡◌, ℕ, zero, suc, ◌+◌, ◌*◌, ◌%◌, ◌<◌, ◌≤◌, ◌==◌, Bool, true, false, not, ◌&&◌, ◌||◌}
+use Rattle.std.proofs.Common.{List, [], ◌∷◌, Some, arith, refl, ap, flat_map, if◌then◌else◌, mod-eq_of_lt}
 use Rattle.std.{proofs.Common.{mul-le-mul_right, nat_lt, slice_index}, specs.Int.div_ceil}
 use Rattle.std.proofs.lemmas.{Grind.div_ceil_times, Bool.Decides.nat_tests}
 use Rattle.ffs_volume.specs.declared.{Class.TheVariants.Dir, Inode.Inode, Layout.Layout, Step.{Step, TheVariants.Run}}
@@ -8,15 +8,14 @@ use Rattle.ffs_volume.specs.Blocks.{Inodes.class_of, Steps.{data_step, steps_at,
 use Rattle.ffs_volume.specs.Directories.{Entries.{bytes_read, chunk_of, chunks_of, has_gap}, PathnameCheck.are_sound}
 use Rattle.ffs_volume.specs.{Directories.Roles.{RoledEntry, roled_chunk}, Disk.Areas.is_run_in_range}
 use Rattle.ffs_volume.specs.{Laws.Geometry.IsAcceptedLayout, Encodings.Replay.{fresh_replay, replayed_steps}}
-use Rattle.ffs_volume.specs.{Encodings.ReplayCounts.replayed_runs, Costs.Calm.is_right_size}
-use Rattle.ffs_volume.specs.Disk.Numbers.{piece}
-use Rattle.ffs_walk.{proofs.Counted.{top_unread}, specs.{Keepings.replay_in}}
+use Rattle.ffs_volume.specs.{Encodings.ReplayCounts.replayed_runs, Costs.Calm.is_right_size, Disk.Numbers.piece}
+use Rattle.ffs_walk.{proofs.Counted.top_unread, specs.{Keepings.replay_in, declared.blocks.Blocks.Blocks}}
+use Rattle.ffs_walk.specs.declared.window.Window.{Window}
 use Rattle.ffs_workspace.proofs.NoteLaws.{IsOneChunkAt}
-use Rattle.ffs_names.specs.{OneChunk.one_chunk_at, Readings.{IsEnded, chunks_in, gap_left, rest}, declared.chunks.Chunks.Chunks}
-use Rattle.ffs_names.specs.{RunCursors.reading_by, Shapes.GivesDirectory, declared.entries.Entries.Entries}
-use Rattle.ffs_names.proofs.{Advances.{over_rest, over_runs}, DirLaws.dir_parts, EntryCounts.{HoldsBy, at_most, reads_by}}
-use Rattle.ffs_names.proofs.{ReadCounts.{run_over}}
-use Rattle.ffs_walk.specs.declared.{blocks.Blocks.Blocks, window.Window.Window}
+use Rattle.ffs_names.specs.{OneChunk.one_chunk_at, Readings.{IsEnded, chunks_in, gap_left, rest}}
+use Rattle.ffs_names.specs.{declared.chunks.Chunks.Chunks, RunCursors.reading_by, Shapes.GivesDirectory}
+use Rattle.ffs_names.{specs.declared.entries.Entries.Entries, proofs.Advances.{over_rest, over_runs}}
+use Rattle.ffs_names.proofs.{DirLaws.dir_parts, EntryCounts.{HoldsBy, at_most, reads_by}, ReadCounts.run_over}
 
 one : (q b : ℕ) → 512 ≤ q * b → q * b < 512 + b → 512 ≤ b → q ≡ 1
 one zero b low high big = absurd (omega arith)

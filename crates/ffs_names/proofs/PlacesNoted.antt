@@ -1,31 +1,28 @@
 -- What is noted of places, entry by entry, chunk by chunk and directory by directory.
-use Rattle.std.proofs.Common.{◌≡◌, ◌≢◌, ℕ, zero, suc, ◌+◌, ◌*◌, ◌/◌, ◌<◌, ◌≤◌, ◌==◌, Bool, true, false, not, ◌&&◌}
-use Rattle.std.proofs.Common.{◌⊎◌, List, [], ◌∷◌, length, Option, Some, None, refl, sym, ap, ◌∙◌, arith, inl, inr}
-use Rattle.std.proofs.Common.{flat_map, if◌then◌else◌, slice_index, slice_set, unwrap_or}
-use Rattle.std.{specs.List.list_any, proofs.{Math.Bool.and-false, lemmas.Bool.{Decides.nat_tests, and_from, and_parts}}}
-use Rattle.std.proofs.lemmas.Bool.{both_ways, cases_eq, cond-false, eq-eqb, eqb-true, leb-true, ltb-true}
-use Rattle.std.proofs.lemmas.{Bool.{ne_eqb, not_from_false, not-true}, List.{Folds.list_any-append}}
-use Rattle.std.{proofs.lemmas.List.{get_or-set_other, get_or-set_same}, specs.declared.vec.Vec.Vec}
-use Rattle.std.specs.declared.alloc.Global.{Global}
-use Rattle.ffs_volume.proofs.{LevelLaws.{level-some, within-zero}}
-use Rattle.ffs_volume.{proofs.{SearchLaws.first_below-some, Unreached.edge-parts}, specs.declared.Layout.Layout}
-use Rattle.ffs_volume.specs.{Disk.{Numbers.piece}, Encodings.Lists.bool_at, Laws.{Geometry.IsAcceptedLayout}}
-use Rattle.ffs_volume.specs.Directories.{Entries.{Chunk, Entry, chunk_of, entries_of}, Graph.{Graph, edge}}
-use Rattle.ffs_volume.specs.Directories.Graph.{is_naming_dir, is_naming_entry, level, parent, parent_by}
-use Rattle.ffs_volume.specs.Directories.{Naming.graph_of, Roles.{RoledEntry, is_dir}}
-use Rattle.ffs_volume.specs.Directories.{Roles.{role_of, roled_chunk, roled_entries, roled_from}, Volumes.volume_of}
-use Rattle.ffs_volume.specs.{Directories.Volumes.volume_with, Blocks.Inodes.inodes_of}
-use Rattle.ffs_volume.specs.Encodings.Places.{entries_in_chunk, entries_in_part, is_due as is_to_be_read, name_in}
-use Rattle.ffs_volume.specs.Encodings.Places.{part_size, part_in, AreParts, AreNoted, IsNoted}
+use Rattle.std.proofs.Common.{◌≡◌, ◌≢◌, ℕ, zero, suc, ◌+◌, ◌*◌, ◌/◌, ◌<◌, ◌≤◌, ◌==◌, Bool, true, false, not, ◌&&◌, ◌⊎◌}
+use Rattle.std.proofs.Common.{List, [], ◌∷◌, length, Option, Some, None, refl, sym, ap, ◌∙◌, arith, inl, inr, flat_map}
+use Rattle.std.{proofs.Common.{if◌then◌else◌, slice_index, slice_set, unwrap_or}, specs.List.list_any}
+use Rattle.std.proofs.{Math.Bool.and-false, lemmas.Bool.{Decides.nat_tests, and_from, and_parts, both_ways, cases_eq}}
+use Rattle.std.proofs.lemmas.Bool.{cond-false, eq-eqb, eqb-true, leb-true, ltb-true, ne_eqb, not_from_false, not-true}
+use Rattle.std.proofs.lemmas.List.{Folds.list_any-append, get_or-set_other, get_or-set_same}
+use Rattle.std.specs.declared.{vec.Vec.Vec, alloc.Global.Global}
+use Rattle.ffs_volume.proofs.{LevelLaws.{level-some, within-zero}, SearchLaws.first_below-some, Unreached.edge-parts}
+use Rattle.ffs_volume.specs.{declared.Layout.Layout, Disk.Numbers.piece, Encodings.Lists.bool_at}
+use Rattle.ffs_volume.specs.{Laws.Geometry.IsAcceptedLayout, Directories.Entries.{Chunk, Entry, chunk_of, entries_of}}
+use Rattle.ffs_volume.specs.Directories.Graph.{Graph, edge, is_naming_dir, is_naming_entry, level, parent, parent_by}
+use Rattle.ffs_volume.specs.Directories.{Naming.graph_of, Roles.{RoledEntry, is_dir, role_of, roled_chunk}}
+use Rattle.ffs_volume.specs.Directories.{Roles.{roled_entries, roled_from}, Volumes.{volume_of, volume_with}}
+use Rattle.ffs_volume.specs.{Blocks.Inodes.inodes_of, Encodings.Places.{entries_in_chunk, entries_in_part}}
+use Rattle.ffs_volume.specs.Encodings.Places.{is_due as is_to_be_read, name_in, part_size, part_in, AreParts, AreNoted}
+use Rattle.ffs_volume.specs.Encodings.Places.{IsNoted}
 use Rattle.ffs_survey.proofs.ParentLaws.{parent_above, IsAbove}
 use Rattle.ffs_workspace.proofs.{Leaving.counts_same, PlaceLaws.{any_naming-roled, name_in-after, name_in-among}}
-use Rattle.ffs_workspace.{proofs.PlaceLaws.name_in-roled, specs.{Holds.{HoldsBlockCheck, HoldsSurvey}}}
-use Rattle.ffs_workspace.{proofs.PartLaws.{begins_part, lies_in_part, BeginsPart}}
-use Rattle.ffs_workspace.specs.declared.{workspace.Workspace.Workspace}
+use Rattle.ffs_workspace.{proofs.PlaceLaws.name_in-roled, specs.Holds.{HoldsBlockCheck, HoldsSurvey}}
+use Rattle.ffs_workspace.proofs.PartLaws.{begins_part, lies_in_part, BeginsPart}
+use Rattle.ffs_workspace.specs.declared.workspace.Workspace.{Workspace}
 use Rattle.ffs_names.{proofs.InParts.named_in_part, specs.{Fits.CursorFits, RunCursors.{last_place, StepsOn}}}
-use Rattle.ffs_names.specs.declared.run_cursor.RunCursor.{RunCursor}
-use Rattle.ffs_names.specs.Noting.{is_child_of, is_found, BeginsNotes, IsParent}
-use Rattle.ffs_names.specs.{Noting.{KeepsToRead, NotesChildren, NotesChunk, NotesEach, NotesRight}}
+use Rattle.ffs_names.specs.{declared.run_cursor.RunCursor.RunCursor, Noting.{is_child_of, is_found, BeginsNotes}}
+use Rattle.ffs_names.specs.Noting.{IsParent, KeepsToRead, NotesChildren, NotesChunk, NotesEach, NotesRight}
 
 -- ---- entries of a chunk
 -- an entry, and those after it

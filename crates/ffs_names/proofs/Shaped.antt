@@ -4,14 +4,13 @@ use Rattle.std.proofs.{Common.{None, ap, arith, is_some, refl, sum_by}, lemmas.L
 use Rattle.std.proofs.Math.Bool.{and-true}
 use Rattle.ffs_volume.{proofs.Reading.{entries_next, entries_end}, specs.declared.{Inode.Inode, Layout.Layout}}
 use Rattle.ffs_volume.specs.{declared.Order.Order, Directories.Entries.{Entry, Chunk, chunk_of, entry_at, entries_from}}
-use Rattle.ffs_volume.specs.{Directories.{Entries.{has_gap}, PathnameCheck.are_sound}, Blocks.Steps.steps_of}
+use Rattle.ffs_volume.specs.{Directories.{Entries.has_gap, PathnameCheck.are_sound}, Blocks.Steps.steps_of}
 use Rattle.ffs_volume.specs.Encodings.{Replay.{fresh_replay, replayed_steps}, ReplayCounts.replayed_runs}
 use Rattle.ffs_volume.specs.Costs.Calm.{is_right_size}
 use Rattle.ffs_walk.specs.declared.{blocks.Blocks.Blocks, window.Window.Window}
 use Rattle.ffs_names.specs.{Costs.{HoldsReading, to_read}, Readings.{chunks_in, gap_left, rest, runs_left}}
-use Rattle.ffs_names.specs.Shapes.{BeginsDirectory}
-use Rattle.ffs_names.{specs.declared.{chunks.Chunks.Chunks, entries.Entries.Entries}, proofs.Entered.end_of_chunk}
-use Rattle.ffs_names.proofs.{Entered.{end_seen}, EntryCounts.at_most}
+use Rattle.ffs_names.specs.{Shapes.BeginsDirectory, declared.{chunks.Chunks.Chunks, entries.Entries.Entries}}
+use Rattle.ffs_names.proofs.{Entered.{end_of_chunk, end_seen}, EntryCounts.at_most}
 
 abbrev pub fills_from : Order → List ℕ → ℕ → Bool
 fills_from order chunk place = place + sum_by (λ e. e.length) (entries_from order chunk 64 place) == 512

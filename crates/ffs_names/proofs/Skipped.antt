@@ -1,7 +1,6 @@
 -- Empty entries that are passed over, one after another.
 use Rattle.std.proofs.Common.{◌≡◌, ℕ, zero, suc, Bool, List, [], ◌∷◌, refl, arith}
-use Rattle.ffs_volume.specs.Directories.{Entries.Entry, Roles.{RoledEntry, role_of}}
-use Rattle.ffs_volume.specs.declared.Role.TheVariants.{Empty}
+use Rattle.ffs_volume.specs.{Directories.{Entries.Entry, Roles.{RoledEntry, role_of}}, declared.Role.TheVariants.Empty}
 use Rattle.ffs_survey.specs.Reading.{SkipsEmpty}
 
 -- one more is passed over

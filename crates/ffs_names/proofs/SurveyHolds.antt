@@ -1,15 +1,14 @@
 -- A survey fills a workspace.
-use Rattle.std.proofs.Common.{◌≡◌, ◌∙◌, ◌+◌, ◌≤◌, ℕ, Bool, true, false, List, Option, Some, None, IfNone, ap, arith, length}
-use Rattle.std.{proofs.{Common.{min, slice_index, sym, refl}, lemmas.Bool.and_parts}, specs.Result.is_ok}
+use Rattle.std.proofs.Common.{◌≡◌, ◌∙◌, ◌+◌, ◌≤◌, ℕ, Bool, true, false, List, Option, Some, None, IfNone, ap, arith}
+use Rattle.std.{proofs.{Common.{length, min, slice_index, sym, refl}, lemmas.Bool.and_parts}, specs.Result.is_ok}
 use Rattle.std.specs.Prelude.{Result, Ok, Err, OnOk, OnErr}
 use Rattle.ffs_volume.specs.{declared.Layout.Layout, Encodings.Kinds.kind_at, Directories.Naming.graph_of}
 use Rattle.ffs_volume.specs.Directories.{Roles.{references_below, roled_entries}, Volumes.{volume_of, volume_with}}
 use Rattle.ffs_volume.specs.{Encodings.Links.start_at, Blocks.Inodes.inodes_of, Costs.Calm.is_directory_of_right_shape}
-use Rattle.ffs_workspace.specs.Holds.{HoldsReferences, HoldsTree}
-use Rattle.ffs_workspace.specs.declared.workspace.Workspace.{Workspace}
+use Rattle.ffs_workspace.specs.{Holds.{HoldsReferences, HoldsTree}, declared.workspace.Workspace.Workspace}
 use Rattle.ffs_survey.specs.{Calm.AreCalm, Survey.{IsSurvey, counted_below, graph_with, most_start, references_to}}
-use Rattle.ffs_names.{specs.{Readers.{Base, dir_entries, dir_right_shape}, Surveys.FlagsOnlyCalm}, proofs.DirLaws.kind_dirs}
-use Rattle.ffs_names.proofs.SameGraphs.{survey_same}
+use Rattle.ffs_names.specs.{Readers.{Base, dir_entries, dir_right_shape}, Surveys.FlagsOnlyCalm}
+use Rattle.ffs_names.proofs.{DirLaws.kind_dirs, SameGraphs.survey_same}
 
 pub none_ended : {T A : Type 0} {K : A → Type 0} (o : Option T) (P : A → Type 0) → ((b : A) → K b → IfNone o (P b))
     → IfNone o ((b : A) → K b → P b)

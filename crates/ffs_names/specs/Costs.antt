@@ -1,17 +1,15 @@
 -- How many reads of the image a reading of a directory still takes, and how many a directory takes in all.
-use Rattle.std.specs.Prelude.{◌≡◌, ℕ, ◌+◌, ◌<◌, ◌≤◌, ◌==◌, Bool, true, ◌&&◌, ◌||◌, nat_lt, if◌then◌else◌, List}
-use Rattle.std.specs.{Prelude.{◌∷◌, Option}, List.flat_map}
+use Rattle.std.specs.Prelude.{◌≡◌, ℕ, ◌+◌, ◌<◌, ◌≤◌, ◌==◌, Bool, true, ◌&&◌, ◌||◌, nat_lt, if◌then◌else◌, List, ◌∷◌}
+use Rattle.std.specs.{Prelude.Option, List.flat_map}
 use Rattle.ffs_image.specs.Known.{ForBytes}
 use Rattle.ffs_volume.specs.declared.{Class.Class, Inode.Inode, Layout.Layout, Step.{Step, TheVariants.Run}}
-use Rattle.ffs_volume.specs.{Blocks.{Inodes.class_of}, Directories.{Roles.roled_chunk}}
-use Rattle.ffs_volume.specs.{Directories.{Roles.roled_entries, Volumes.volume_of}}
-use Rattle.ffs_volume.specs.{Report.Reads.sweep_reads}
+use Rattle.ffs_volume.specs.{Blocks.Inodes.class_of, Directories.Roles.{roled_chunk, roled_entries}}
+use Rattle.ffs_volume.specs.{Directories.Volumes.volume_of, Report.Reads.sweep_reads}
 use Rattle.ffs_volume.specs.Costs.DirectoryReads.{noted_directory_cost, noted_directories_cost}
 use Rattle.ffs_layout.specs.declared.geometry.Geometry.{Geometry}
 use Rattle.ffs_walk.specs.{Counts.{AreHeld, entered, unread}, declared.{blocks.Blocks.Blocks, window.Window.Window}}
-use Rattle.ffs_names.specs.{Readings.{rest, runs_after, runs_left}}
-use Rattle.ffs_names.specs.{Readings.{BeginsAt, Continues}, RunCursors.IsWhole, declared.chunks.Chunks.Chunks}
-use Rattle.ffs_names.specs.declared.{entries.Entries.Entries, run_cursor.RunCursor.RunCursor}
+use Rattle.ffs_names.specs.{Readings.{rest, runs_after, runs_left, BeginsAt, Continues}, RunCursors.IsWhole}
+use Rattle.ffs_names.specs.declared.{chunks.Chunks.Chunks, entries.Entries.Entries, run_cursor.RunCursor.RunCursor}
 
 -- 1 where the current Run has chunks and is still to be read: none of them was given yet
 abbrev pub unread_run : RunCursor → ℕ

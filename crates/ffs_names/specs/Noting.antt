@@ -4,7 +4,8 @@
 use Rattle.std.specs.Prelude.{◌≡◌, ◌⊎◌, ℕ, suc, ◌<◌, ◌≤◌, ◌^◌, ◌==◌, Bool, true, false, not, ◌&&◌, if◌then◌else◌, List}
 use Rattle.std.specs.{Prelude.{◌+◌, nat_lt, slice_index, length, vec_len, OnOk, Result}, List.list_any}
 use Rattle.std.specs.declared.{alloc.Global.Global, vec.Vec.Vec}
-use Rattle.ffs_workspace.specs.Moments.{WorkMoment}
+use Rattle.ffs_workspace.specs.{Moments.WorkMoment, Holds.HoldsSurvey, Ready.CanRead}
+use Rattle.ffs_workspace.specs.declared.workspace.{Windows.Windows, Workspace.Workspace}
 use Rattle.ffs_image.specs.{Device.{Device, ForContents}, Reads.ReadAfter, declared.image.ImageFault.ImageFault}
 use Rattle.ffs_image.specs.declared.image.Image.{Ghosts}
 use Rattle.ffs_volume.specs.declared.{constants.TheConstants.ROOTINO, Layout.Layout}
@@ -12,10 +13,7 @@ use Rattle.ffs_volume.specs.Directories.{Graph.is_naming_entry, Roles.{RoledEntr
 use Rattle.ffs_volume.specs.{Disk.Search.some_below, Encodings.Lists.bool_at, Blocks.Inodes.inodes_of}
 use Rattle.ffs_volume.specs.{Costs.DirectoryReads.{costs_below, noted_directory_cost}, Encodings.Places.entries_in_part}
 use Rattle.ffs_volume.specs.Encodings.Places.{is_due as is_to_be_read, name_in, part_in, AreNoted, IsNoted}
-use Rattle.ffs_workspace.specs.{Holds.HoldsSurvey, Ready.CanRead, declared.workspace.Windows.Windows}
-use Rattle.ffs_workspace.specs.declared.workspace.Workspace.{Workspace}
-use Rattle.ffs_names.specs.{Costs.{to_read, HoldsReading}, Windows.CanReadChunks}
-use Rattle.ffs_names.specs.declared.chunks.Chunks.{Chunks}
+use Rattle.ffs_names.specs.{Costs.{to_read, HoldsReading}, Windows.CanReadChunks, declared.chunks.Chunks.Chunks}
 
 -- a place that isn't 0 and has 31 bits can be noted for children of p, which isn't 0, by lists of one
 -- length

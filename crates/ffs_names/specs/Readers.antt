@@ -1,13 +1,12 @@
 -- The reader of a volume's directories that a survey goes over.
-use Rattle.std.specs.Prelude.{◌≡◌, ◌*◌, ℕ, List, [], Option, Some, slice_index, if◌then◌else◌, Bool, vec_len}
-use Rattle.std.specs.{Prelude.length, Borrow.GName}
+use Rattle.std.specs.Prelude.{◌≡◌, ◌*◌, ℕ, List, [], Option, Some, slice_index, if◌then◌else◌, Bool, vec_len, length}
+use Rattle.std.specs.Borrow.{GName}
 use Rattle.ffs_image.specs.Device.{Device}
 use Rattle.ffs_volume.specs.{declared.Layout.Layout, Directories.Roles.{RoledEntry, is_dir, roled_entries}}
 use Rattle.ffs_volume.specs.{Directories.Volumes.volume_of, Encodings.{Kinds.kind_at, Notes.note_at}}
-use Rattle.ffs_volume.specs.{Blocks.Inodes.inodes_of, Costs.Calm.is_directory_of_right_shape}
+use Rattle.ffs_volume.specs.{Blocks.Inodes.inodes_of, Costs.Calm.is_directory_of_right_shape, Disk.Areas.FitsIn}
 use Rattle.ffs_workspace.specs.{Tables.IsTableOf, declared.workspace.Windows.Windows}
 use Rattle.ffs_walk.specs.Windows.{BlocksHold, WindowHolds}
-use Rattle.ffs_volume.specs.Disk.Areas.{FitsIn}
 
 -- what a reader of directories is over: a layout, the image's bytes where it gives them, the kinds
 -- of inodes and what is noted of them, and what it was lent

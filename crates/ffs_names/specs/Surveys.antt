@@ -1,14 +1,13 @@
 -- What a survey finds, which directories it flags, and what it leaves as it was.
 use Rattle.std.specs.Prelude.{◌≡◌, ◌+◌, ◌≤◌, ℕ, false, true, List, OnErr, OnOk, Result, slice_index}
-use Rattle.ffs_workspace.specs.Moments.{WorkMoment}
+use Rattle.ffs_workspace.specs.{Moments.WorkMoment, declared.workspace.Workspace.Workspace, Leaves.LeavesBlockCheck}
+use Rattle.ffs_workspace.specs.{Ready.IsReady, Holds.{HoldsBlockCheck, HoldsReferences, HoldsSurvey}}
 use Rattle.ffs_image.specs.{Device.Device, Reads.ReadAfter, declared.image.ImageFault.ImageFault}
 use Rattle.ffs_volume.specs.{declared.Layout.Layout, Directories.{Roles.roled_entries, Volumes.volume_of}}
-use Rattle.ffs_survey.specs.Calm.{AreCalm}
 use Rattle.ffs_volume.specs.{Costs.Calm.is_directory_of_right_shape, Encodings.Lists.bool_at}
-use Rattle.ffs_workspace.specs.{declared.workspace.Workspace.Workspace, Leaves.LeavesBlockCheck, Ready.IsReady}
-use Rattle.ffs_workspace.specs.Holds.{HoldsBlockCheck, HoldsReferences, HoldsSurvey}
 use Rattle.ffs_volume.specs.Costs.DirectoryReads.{noted_directories_cost}
-use Rattle.ffs_names.specs.{CalmDirs.FlagsEachCalm}
+use Rattle.ffs_survey.specs.Calm.{AreCalm}
+use Rattle.ffs_names.specs.CalmDirs.{FlagsEachCalm}
 
 -- what a survey leaves: the workspace is ready for the next call, `words` is zero, so that it notes no
 -- place of a parent entry, and the image was only read. After a failed read it counts as not surveyed

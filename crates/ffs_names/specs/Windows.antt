@@ -1,10 +1,9 @@
 -- When the windows of a directory's blocks and chunks can be read into.
 use Rattle.std.specs.Prelude.{◌≡◌, ◌+◌, ◌*◌, ◌<◌, ◌≤◌, vec_len}
 use Rattle.ffs_image.specs.Device.{Device}
-use Rattle.ffs_volume.specs.declared.Layout.{Layout}
+use Rattle.ffs_volume.specs.{declared.Layout.Layout, Disk.Areas.FitsIn}
 use Rattle.ffs_walk.specs.{declared.{blocks.Blocks.Blocks, window.Window.Window}, Windows.{BlocksHold, WindowHolds}}
 use Rattle.ffs_names.specs.declared.run_cursor.RunCursor.{RunCursor}
-use Rattle.ffs_volume.specs.Disk.Areas.{FitsIn}
 
 -- the image has all of the volume, and the buffer of indirect blocks has a block of each level and
 -- holds what the image gives

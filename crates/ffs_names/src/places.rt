@@ -6,19 +6,18 @@
 
 ghost use Rattle.std.specs.Prelude.{◌≡◌, ◌+◌, ◌<◌, ◌≤◌, ◌^◌, ◌∷◌, [], true, false, IfOk, OnOk, MatchResult, length};
 ghost use Rattle.std.specs.{Prelude.vec_len, List.flat_map};
-ghost use Rattle.ffs_workspace.specs.Moments.{work_moment};
+ghost use Rattle.ffs_workspace.specs.{Moments.work_moment, Found.{WithBlockCheck, WithSurvey}, Holds.HoldsSurvey};
+ghost use Rattle.ffs_workspace.specs.{Ready.CanRead, Tables.{CanReadInode, TableAfter}};
 ghost use Rattle.ffs_image.specs.{Device.ForContents, Known.ForBytes};
 ghost use Rattle.ffs_layout.specs.Entry.{entry_value};
 ghost use Rattle.ffs_volume.specs.Directories.{Entries.entries_of, Roles.{is_dir, role_of as role_in, roled_chunk}};
 ghost use Rattle.ffs_volume.specs.{Directories.{Roles.roled_from, Volumes.volume_of}, Encodings.Notes.note_at};
 ghost use Rattle.ffs_volume.specs.Costs.DirectoryReads.{noted_directory_cost};
-ghost use Rattle.ffs_workspace.specs.{Found.{WithBlockCheck, WithSurvey}, Holds.HoldsSurvey, Ready.CanRead};
-ghost use Rattle.ffs_workspace.specs.Tables.{CanReadInode, TableAfter};
 ghost use Rattle.ffs_names.specs.Noting.{noting_moment, is_child_of, BeginsNotes, CanNote, CanNoteChunks};
 ghost use Rattle.ffs_names.specs.Noting.{CanNoteDirectory, HoldsPlaces, NotingDirectoryLeaves, NotingChunksLeaves};
 ghost use Rattle.ffs_names.specs.Noting.{NotingLeaves, NotesDirectory, NotesEach, NotesInWords, NotesRight};
-ghost use Rattle.ffs_names.specs.Noting.{parents_sweep_cost};
-ghost use Rattle.ffs_names.specs.{Costs.{BeginsChunks, BeginsReads, SweepsOnce}, Readings.rest};
+ghost use Rattle.ffs_names.specs.{Noting.parents_sweep_cost, Costs.{BeginsChunks, BeginsReads, SweepsOnce}};
+ghost use Rattle.ffs_names.specs.Readings.{rest};
 
 use crate::chunk_entries::ChunkEntries;
 use crate::chunks::Chunks;

@@ -1,11 +1,10 @@
 //! The survey of a volume's directories.
 
 ghost use Rattle.std.specs.Prelude.{◌≡◌, false, true, OnOk};
-ghost use Rattle.ffs_workspace.specs.Moments.{work_moment};
+ghost use Rattle.ffs_workspace.specs.{Moments.work_moment, Found.WithBlockCheck, Ready.{CanRead, IsReady}};
 ghost use Rattle.ffs_image.specs.Known.{ForBytes};
-ghost use Rattle.ffs_workspace.specs.{Found.WithBlockCheck, Ready.{CanRead, IsReady}};
-ghost use Rattle.ffs_names.specs.{Costs.SweepsOnce, Surveys.{IsSurveyed, SurveyLeaves, SurveysAll}};
-ghost use Rattle.ffs_names.specs.{Surveys.SurveysNoMore, CalmDirs.FlagsEachCalm};
+ghost use Rattle.ffs_names.specs.{Costs.SweepsOnce, Surveys.{IsSurveyed, SurveyLeaves, SurveysAll, SurveysNoMore}};
+ghost use Rattle.ffs_names.specs.CalmDirs.{FlagsEachCalm};
 
 use crate::entries::Entries;
 use crate::reader::DirectoryReader;

@@ -9,15 +9,14 @@ use Rattle.ffs_pathnames.specs.{Begins.IsDirectoryBegun, PassedRight.RemembersBe
 use Rattle.ffs_pathnames.specs.PassedNames.{are_quiet, entries_reported, after_entries}
 use Rattle.ffs_volume.specs.{declared.Layout.Layout, Blocks.Inodes.inode_of, Directories.{Entries.Entry, Graph.parent}}
 use Rattle.ffs_volume.specs.Directories.{Naming.graph_of, Paths.dir_path, PathnameCheck.{attributes, attributes_of}}
-use Rattle.ffs_volume.specs.Directories.PathnameCheck.{sized_dir_lines}
-use Rattle.ffs_volume.specs.Directories.PathnameCheck.{lines_of_entries, dir_header_lines, header_defects, header_lines}
-use Rattle.ffs_volume.specs.Directories.{Roles.{Volume, is_dir, roled_entries, start_entry}, Volumes.volume_of}
-use Rattle.ffs_volume.specs.{Directories.Volumes.volume_with, Messages.Kinds.{Message, TreeMessage, of_tree}}
+use Rattle.ffs_volume.specs.Directories.PathnameCheck.{sized_dir_lines, lines_of_entries, dir_header_lines}
+use Rattle.ffs_volume.specs.Directories.{PathnameCheck.{header_defects, header_lines}, Roles.{Volume, is_dir}}
+use Rattle.ffs_volume.specs.Directories.{Roles.{roled_entries, start_entry}, Volumes.{volume_of, volume_with}}
+use Rattle.ffs_volume.specs.Messages.Kinds.{Message, TreeMessage, of_tree}
 use Rattle.ffs_report.{proofs.Reporting.{reports_knowing, reports_same}, specs.Progress.Progress}
-use Rattle.ffs_image.specs.Known.{ForBytes}
 use Rattle.ffs_report.specs.{PhaseOutcome.{ImageAfter, SaidOf, PhaseReports}, declared.fault.RunFault.RunFault}
 use Rattle.ffs_report.specs.declared.fault.RunFault.TheVariants.{Read, Out}
-use Rattle.ffs_image.specs.Device.{Device, Faulted}
+use Rattle.ffs_image.specs.{Known.ForBytes, Device.{Device, Faulted}}
 use Rattle.ffs_workspace.specs.declared.workspace.Workspace.{Workspace}
 
 -- what is said of what is known, where more is known and it has another form

@@ -13,14 +13,12 @@ use Rattle.ffs_volume.proofs.{Numbered.all_from_root, Sizes.some_inodes}
 use Rattle.ffs_workspace.specs.{declared.workspace.Workspace.Workspace, Lengths.IsFor, Holds.{bool_at, HoldsBlockCheck}}
 use Rattle.ffs_workspace.{specs.{Holds.{HoldsReferences, HoldsSurvey}, Leaves.LeavesSurvey}, proofs.KindLaws.reports_at}
 use Rattle.ffs_workspace.proofs.{KindLaws.suspect_is, Leaving.{claims_left, survey_left, leaves_all}}
-use Rattle.ffs_pathnames.specs.{KnowsNoted.KnowsNoted, Before.{IsNonePassed, KnowsBefore}}
-use Rattle.ffs_pathnames.specs.Sees.{passed_of}
-use Rattle.ffs_pathnames.specs.{Before.KnowsBeforeNoted, Silent.IsSilentDirectory}
-use Rattle.ffs_pathnames.specs.RootAnswers.{root_reported}
-use Rattle.ffs_pathnames.specs.ChecksNeeded.{needs_check}
-use Rattle.ffs_pathnames.{specs.{PassedRight.RemembersBefore, Stamps.KeepParts}, proofs.Begun.directory_is}
-use Rattle.ffs_pathnames.proofs.{Begun.quiet_parts, StampLaws.{noted_kept, stamps_length}, BetweenLaws.other_next}
-use Rattle.ffs_pathnames.proofs.{BetweenLaws.{silent_next, silent_quiet}, EmptyLaws.{looked_is, looked_dir, names_none}}
+use Rattle.ffs_pathnames.specs.{KnowsNoted.KnowsNoted, Before.{IsNonePassed, KnowsBefore, KnowsBeforeNoted}}
+use Rattle.ffs_pathnames.specs.{Sees.passed_of, Silent.IsSilentDirectory, RootAnswers.root_reported}
+use Rattle.ffs_pathnames.specs.{ChecksNeeded.needs_check, PassedRight.RemembersBefore, Stamps.KeepParts}
+use Rattle.ffs_pathnames.proofs.{Begun.{directory_is, quiet_parts}, StampLaws.{noted_kept, stamps_length}}
+use Rattle.ffs_pathnames.proofs.{BetweenLaws.{other_next, silent_next, silent_quiet}, EmptyLaws.{looked_is, looked_dir}}
+use Rattle.ffs_pathnames.proofs.EmptyLaws.{names_none}
 use Rattle.ffs_survey.specs.Survey.{suspect_at}
 
 -- what follows from two facts of each value that is answered

@@ -1,11 +1,10 @@
 -- The lines of an entry, one at least, for which texts were gathered.
 use Rattle.std.proofs.Common.{◌≡◌, ◌≤◌, ap, append-nil, ℕ, IsTrue, List, [], ◌∷◌, length, map, Result, Ok, Err}
-use Rattle.ffs_image.specs.{Device.Device, declared.image.ImageFault.ImageFault}
+use Rattle.ffs_image.specs.{Device.Device, declared.image.ImageFault.ImageFault, Known.ForBytes}
 use Rattle.ffs_volume.specs.{declared.Layout.Layout, Directories.{Roles.{RoledEntry, Volume}, Volumes.volume_of}}
 use Rattle.ffs_volume.specs.{Messages.Kinds.{TreeMessage, of_tree}, Report.Reads.line_reads}
-use Rattle.ffs_report.{specs.{Paid.Paid, PhaseOutcome.PhaseReports, Progress.{Progress, Said, Stopped}}, proofs.Paying.paid_reads}
-use Rattle.ffs_image.specs.Known.{ForBytes}
-use Rattle.ffs_report.proofs.{Paying.{paid_says, paid_stops}, Reporting.{reads_first, says_all, stops_all}}
+use Rattle.ffs_report.specs.{Paid.Paid, PhaseOutcome.PhaseReports, Progress.{Progress, Said, Stopped}}
+use Rattle.ffs_report.proofs.{Paying.{paid_reads, paid_says, paid_stops}, Reporting.{reads_first, says_all, stops_all}}
 use Rattle.ffs_report.specs.declared.fault.RunFault.{RunFault, TheVariants.{Read, Out}}
 use Rattle.ffs_workspace.specs.declared.workspace.Workspace.{Workspace}
 use Rattle.ffs_paths.specs.{declared.kept_parent.KeptParent.KeptParent, Reads.KnowsPlaces}

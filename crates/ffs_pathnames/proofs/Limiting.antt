@@ -1,16 +1,14 @@
 -- What a line shows was gathered over an image with a limit: what of the image below was read.
 use Rattle.std.{specs.Borrow.GName, proofs.Common.{◌≡◌, ◌+◌, ◌≤◌, ℕ, sym, ap, subst, ◌∙◌, arith, Bool, true, false}}
 use Rattle.std.proofs.{Common.{List, Result, Ok, Err}, lemmas.Bool.both_ways}
-use Rattle.ffs_workspace.specs.Moments.{WorkMoment}
+use Rattle.ffs_workspace.specs.{Moments.WorkMoment, declared.workspace.Workspace.Workspace, Ready.CanRead}
+use Rattle.ffs_workspace.proofs.Readiness.{can_read_same}
 use Rattle.ffs_image.specs.{Device.Device, declared.image.ImageFault.ImageFault, Limited.{GivesBackLent, lent_at}}
 use Rattle.ffs_image.{specs.Limited.limited_device, proofs.Limits.{ServedBy, read_over, served}}
 use Rattle.ffs_volume.specs.declared.Layout.{Layout}
-use Rattle.ffs_workspace.{specs.{declared.workspace.Workspace.Workspace, Ready.CanRead}, proofs.Readiness.can_read_same}
-use Rattle.ffs_paths.specs.{Reads.{KnowsPlaces, OnlyReads, ReadsAtMost}, KeptParents.HoldsKeptParent}
-use Rattle.ffs_paths.specs.KeptParents.{KeptMoment, PathLeaves, SparesReads}
-use Rattle.ffs_paths.specs.declared.kept_parent.KeptParent.{KeptParent}
-use Rattle.ffs_pathnames.specs.{KnowsNoted.KnowsNoted, Ready.LimitedPathLeaves}
-use Rattle.ffs_pathnames.proofs.LineCounts.{knows_places}
+use Rattle.ffs_paths.specs.{Reads.{KnowsPlaces, OnlyReads, ReadsAtMost}, KeptParents.{HoldsKeptParent, KeptMoment}}
+use Rattle.ffs_paths.specs.{KeptParents.{PathLeaves, SparesReads}, declared.kept_parent.KeptParent.KeptParent}
+use Rattle.ffs_pathnames.{specs.{KnowsNoted.KnowsNoted, Ready.LimitedPathLeaves}, proofs.LineCounts.knows_places}
 
 -- the moment at which an image, how often it was read, and a workspace are these; and what is kept of a parent
 abbrev path_at : Device → ℕ → Workspace → WorkMoment

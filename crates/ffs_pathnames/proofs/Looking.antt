@@ -1,10 +1,9 @@
 -- A look at the entries of a chunk, and at the chunks of a directory, one after another.
-use Rattle.std.proofs.{Common.{refl, ◌++◌, ◌≡◌, sym, ◌∙◌, ℕ, arith, Bool, ◌&&◌, List, [], ◌∷◌}, Math.Bool.and-true}
-use Rattle.std.{proofs.{Common.{◌⊎◌, true}, Math.Bool.and_assoc}, specs.List.flat_map}
+use Rattle.std.proofs.Common.{refl, ◌++◌, ◌≡◌, sym, ◌∙◌, ℕ, arith, Bool, ◌&&◌, List, [], ◌∷◌, ◌⊎◌, true}
+use Rattle.std.{proofs.Math.Bool.{and-true, and_assoc}, specs.List.flat_map}
 use Rattle.ffs_pathnames.specs.PassedNames.{is_quiet, are_quiet, after_look, after_looks}
 use Rattle.ffs_volume.specs.Directories.{Entries.{Chunk, Entry}, PathnameCheck.are_sound, Roles.{roled_chunk, Volume}}
-use Rattle.ffs_volume.specs.declared.Role.{Role, TheVariants.{Dot, Dotdot, Empty}}
-use Rattle.ffs_volume.specs.Directories.Roles.{RoledEntry}
+use Rattle.ffs_volume.specs.{Directories.Roles.RoledEntry, declared.Role.{Role, TheVariants.{Dot, Dotdot, Empty}}}
 
 -- ---- the entries of a chunk
 -- one that is empty, `.` or `..` is quiet, and stamps nothing

@@ -1,8 +1,7 @@
 -- Stamps, where one word changes.
 use Rattle.std.proofs.Common.{arith, ◌≡◌, ℕ, zero, suc, Bool, true, false, if◌then◌else◌, refl, List, [], ◌∷◌, length}
-use Rattle.std.proofs.Common.{slice_index, slice_set, not, ◌&&◌, ◌==◌, ◌<◌, ◌≤◌, ◌∙◌, ap, eqb-true, eq-eqb}
-use Rattle.std.{proofs.{Common.lt-ltb, lemmas.Bool.{and_from, and_parts}}, specs.declared.alloc.Global.Global}
-use Rattle.std.specs.declared.vec.Vec.{Vec}
+use Rattle.std.proofs.Common.{slice_index, slice_set, not, ◌&&◌, ◌==◌, ◌<◌, ◌≤◌, ◌∙◌, ap, eqb-true, eq-eqb, lt-ltb}
+use Rattle.std.{proofs.lemmas.Bool.{and_from, and_parts}, specs.declared.{alloc.Global.Global, vec.Vec.Vec}}
 use Rattle.ffs_workspace.specs.{Leaves.LeavesSurvey, declared.workspace.Workspace.Workspace}
 use Rattle.ffs_volume.specs.{Encodings.Places.{is_due, part_in, AreNoted}, declared.{Layout.Layout, Role.Role}}
 use Rattle.ffs_volume.specs.{Encodings.Kinds.is_dir_kind, Directories.{Entries.Entry, Roles.{Volume, is_plain}}}

@@ -1,14 +1,10 @@
 -- What is known between two directories of the pathname check.
-use Rattle.std.specs.Prelude.{◌≡◌, ℕ, not, ◌&&◌, List}
-use Rattle.std.specs.Prelude.{Option, Some, slice_index}
+use Rattle.std.specs.Prelude.{◌≡◌, ℕ, not, ◌&&◌, List, Option, Some, slice_index}
 use Rattle.ffs_image.specs.Device.{Device}
-use Rattle.ffs_volume.specs.declared.Layout.{Layout}
-use Rattle.ffs_volume.specs.Directories.Volumes.{volume_of}
-use Rattle.ffs_workspace.specs.{declared.workspace.Workspace.Workspace, Leaves.LeavesSurvey}
-use Rattle.ffs_volume.specs.Encodings.Places.{AreNoted}
-use Rattle.ffs_workspace.specs.{Holds.{bool_at, HoldsBlockCheck, HoldsSurvey}, Ready.{CanRead, IsReady}}
-use Rattle.ffs_pathnames.specs.PassedRight.{RemembersBefore}
-use Rattle.ffs_pathnames.specs.Sees.{passed_of}
+use Rattle.ffs_volume.specs.{declared.Layout.Layout, Directories.Volumes.volume_of, Encodings.Places.AreNoted}
+use Rattle.ffs_workspace.specs.{declared.workspace.Workspace.Workspace, Leaves.LeavesSurvey, Holds.bool_at}
+use Rattle.ffs_workspace.specs.{Holds.{HoldsBlockCheck, HoldsSurvey}, Ready.{CanRead, IsReady}}
+use Rattle.ffs_pathnames.specs.{PassedRight.RemembersBefore, Sees.passed_of}
 use Rattle.ffs_survey.specs.Survey.{suspect_at}
 
 -- what was found stays; the flags of suspect inodes are taken away, and no others; nothing is

@@ -1,12 +1,9 @@
 -- Which directories need a check in phase 2, by the bytes of the image, and that a call takes away none of the
 -- flags by which others need none.
-use Rattle.std.specs.Prelude.{◌≡◌, ℕ, true, false, List}
+use Rattle.std.specs.Prelude.{◌≡◌, ℕ, true, false, List, ◌<◌, ◌≤◌, Bool, not, ◌&&◌, ◌||◌, ◌==◌, slice_index, vec_len}
 use Rattle.ffs_volume.specs.{declared.Layout.Layout, Encodings.Lists.bool_at, Costs.DirectoryReads.is_looked_at}
-use Rattle.ffs_workspace.specs.declared.workspace.Workspace.{Workspace}
-use Rattle.std.specs.Prelude.{◌<◌, ◌≤◌, Bool, not, ◌&&◌, ◌||◌, ◌==◌}
-use Rattle.std.specs.Prelude.{slice_index, vec_len}
 use Rattle.ffs_volume.specs.declared.constants.TheConstants.{DT_DIR}
-use Rattle.ffs_workspace.specs.Holds.{bool_at}
+use Rattle.ffs_workspace.specs.{declared.workspace.Workspace.Workspace, Holds.bool_at}
 use Rattle.ffs_pathnames.specs.Sees.{HasInodeLists}
 
 -- a directory that isn't of size 0 and isn't known to be calm. That a marked one is flagged doesn't

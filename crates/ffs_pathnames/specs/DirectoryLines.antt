@@ -1,8 +1,7 @@
 -- What the check of directories reports, how often it reads the image for that, and what it leaves.
 use Rattle.std.specs.Prelude.{◌≡◌, ℕ, ◌+◌, ◌*◌, ◌≤◌, true, IfOk, List, OnOk, Result, length, map}
-use Rattle.ffs_report.specs.{Paid.Paid, PhaseOutcome.{ImageAfter, PhaseReports}}
+use Rattle.ffs_report.specs.{Paid.Paid, PhaseOutcome.{ImageAfter, PhaseReports}, declared.fault.RunFault.RunFault}
 use Rattle.ffs_image.specs.Known.{ForBytes}
-use Rattle.ffs_report.specs.declared.fault.RunFault.{RunFault}
 use Rattle.ffs_volume.specs.{declared.Layout.Layout, Directories.{PathnameCheck.dir_header_lines, Roles.roled_entries}}
 use Rattle.ffs_volume.specs.{Directories.{Roles.Volume, Volumes.volume_of}, Report.Reads.{line_reads, path_reads}}
 use Rattle.ffs_volume.specs.{Report.Reads.sweep_reads, Messages.Kinds.{TreeMessage, of_tree}}
@@ -10,13 +9,11 @@ use Rattle.ffs_volume.specs.Costs.DirectoryReads.{directories_cost, directory_co
 use Rattle.ffs_volume.specs.{Costs.DirectoryReads.places_cost, Encodings.Places.AreNoted}
 use Rattle.ffs_paths.specs.declared.kept_parent.KeptParent.{KeptParent}
 use Rattle.ffs_workspace.specs.{Holds.{HoldsBlockCheck, HoldsSurvey}, Leaves.LeavesAllButPlaces, Ready.CanRead}
-use Rattle.ffs_pathnames.specs.{ChecksNeeded.ChecksLookedAt, Before.KnowsBefore, LineReads.again_reads}
-use Rattle.ffs_pathnames.specs.Sees.{passed_of}
-use Rattle.ffs_pathnames.specs.{LineReads.ReadsByLines, HeaderValues.{KnowsHeader, facts_lines}}
-use Rattle.ffs_pathnames.specs.{Moments.LinesMoment, PassedNames.are_quiet, Ready.LinesLeave}
-use Rattle.ffs_pathnames.specs.{Ready.DirectoryLeaves, declared.checking.Checking.Checking}
-use Rattle.ffs_pathnames.specs.{Tasks.{DirectoryTask, entries_task, sized_task}, declared.header.HeaderFacts.HeaderFacts}
-use Rattle.ffs_pathnames.specs.declared.look.Directory.{Directory}
+use Rattle.ffs_pathnames.specs.{ChecksNeeded.ChecksLookedAt, Before.KnowsBefore, LineReads.{again_reads, ReadsByLines}}
+use Rattle.ffs_pathnames.specs.{Sees.passed_of, HeaderValues.{KnowsHeader, facts_lines}, Moments.LinesMoment}
+use Rattle.ffs_pathnames.specs.{PassedNames.are_quiet, Ready.{LinesLeave, DirectoryLeaves}}
+use Rattle.ffs_pathnames.specs.{declared.checking.Checking.Checking, Tasks.{DirectoryTask, entries_task, sized_task}}
+use Rattle.ffs_pathnames.specs.declared.{header.HeaderFacts.HeaderFacts, look.Directory.Directory}
 
 -- the lines on what was found of a directory before its entries are said, and the image is read for no more
 -- than these; any image for no more than the messages that were begun. All of the workspace but its windows

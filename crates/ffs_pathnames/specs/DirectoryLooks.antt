@@ -1,14 +1,12 @@
 -- What a look at a directory finds, how often it reads for it, and what of a workspace stays.
 use Rattle.std.specs.{Prelude.{◌≡◌, ◌+◌, ◌≤◌, ℕ, ◌==◌, IfOk, List, [], Result}, List.find}
-use Rattle.ffs_workspace.specs.Moments.{WorkMoment}
-use Rattle.ffs_image.specs.{Reads.ReadAfter, declared.image.ImageFault.ImageFault}
-use Rattle.ffs_image.specs.Known.{ForBytes}
+use Rattle.ffs_workspace.specs.{Moments.WorkMoment, declared.workspace.Workspace.Workspace, Leaves.LeavesSurvey}
+use Rattle.ffs_workspace.specs.Ready.{CanRead}
+use Rattle.ffs_image.specs.{Reads.ReadAfter, declared.image.ImageFault.ImageFault, Known.ForBytes}
 use Rattle.ffs_volume.specs.{declared.Layout.Layout, Blocks.Inodes.inode_of, Directories.Roles.roled_entries}
 use Rattle.ffs_volume.specs.Directories.{PathnameCheck.are_sound, Volumes.volume_of}
-use Rattle.ffs_pathnames.specs.declared.look.{ChunksLook.ChunksLook, FirstLook.FirstLook}
-use Rattle.ffs_pathnames.specs.Sees.{passed_of}
+use Rattle.ffs_pathnames.specs.{declared.look.{ChunksLook.ChunksLook, FirstLook.FirstLook}, Sees.passed_of}
 use Rattle.ffs_pathnames.specs.{PassedNames.{are_quiet, after_looks}, StartChunks.start_chunk, Stamps.KeepParts}
-use Rattle.ffs_workspace.specs.{declared.workspace.Workspace.Workspace, Leaves.LeavesSurvey, Ready.CanRead}
 
 -- a call leaves what the phases before the pathname check left, the flags, and the places that words note
 pub record LeavesAllButDue (old new : Workspace) : Type 0 where

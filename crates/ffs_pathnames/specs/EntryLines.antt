@@ -4,11 +4,9 @@ use Rattle.ffs_report.specs.{Paid.Paid, PhaseOutcome.PhaseReports, declared.faul
 use Rattle.ffs_image.specs.Known.{ForBytes}
 use Rattle.ffs_volume.specs.{declared.Layout.Layout, Directories.{Roles.{RoledEntry, Volume}, Volumes.volume_of}}
 use Rattle.ffs_volume.specs.{Messages.Kinds.{TreeMessage, of_tree}, Report.Reads.line_reads, Encodings.Places.AreNoted}
-use Rattle.ffs_pathnames.specs.{KnowsNoted.{KnowsNoted, KeepsPath, KnowsPath}, LineReads.ReadsByLines}
-use Rattle.ffs_pathnames.specs.{LineReads.ReadsPathOnce, declared.entry_texts.EntryTexts.EntryTexts}
-use Rattle.ffs_pathnames.specs.Sees.{passed_of}
-use Rattle.ffs_pathnames.specs.{Moments.LinesMoment, PassedNames.{after_entries, entries_reported}, Ready.LinesLeave}
-use Rattle.ffs_pathnames.specs.Ready.{DirectoryLeaves}
+use Rattle.ffs_pathnames.specs.{KnowsNoted.{KnowsNoted, KeepsPath, KnowsPath}, LineReads.{ReadsByLines, ReadsPathOnce}}
+use Rattle.ffs_pathnames.specs.{declared.entry_texts.EntryTexts.EntryTexts, Sees.passed_of, Moments.LinesMoment}
+use Rattle.ffs_pathnames.specs.{PassedNames.{after_entries, entries_reported}, Ready.{LinesLeave, DirectoryLeaves}}
 
 -- lines of entries of the directory `dir` are said, those of the volume; the path that is settled, if
 -- any, is still that of `dir`, and made once; and the image is read for no more than these lines, any image

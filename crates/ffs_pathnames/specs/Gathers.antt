@@ -1,7 +1,9 @@
 -- What is gathered for the messages on an entry and on a directory.
 use Rattle.std.specs.Prelude.{◌≡◌, ℕ, ◌<◌, Bool, true, false, IsTrue, List, vec_len, ◌+◌, ◌≤◌, Result, IfOk, OnOk}
-use Rattle.ffs_workspace.specs.Moments.{work_moment}
-use Rattle.ffs_image.specs.{Device.ForContents, declared.image.{Image.Ghosts, ImageFault.ImageFault}}
+use Rattle.std.specs.Prelude.{if◌then◌else◌}
+use Rattle.ffs_workspace.specs.{Moments.work_moment, declared.workspace.Workspace.Workspace, Lengths.IsFor}
+use Rattle.ffs_workspace.specs.Holds.{HoldsBlockCheck, HoldsSurvey}
+use Rattle.ffs_image.specs.{Device.ForContents, declared.image.{Image.Ghosts, ImageFault.ImageFault}, Known.ForBytes}
 use Rattle.ffs_volume.specs.{Messages.Kinds.TreeMessage, Directories.{Volumes.volume_of, Entries.Entry}}
 use Rattle.ffs_volume.specs.declared.{Attr.Attr, Layout.Layout, verdict.Verdict.{Verdict, TheVariants.Named}}
 use Rattle.ffs_volume.specs.declared.verdict.Verdict.TheVariants.{OutOfRange, BadWhiteout, Whiteout, Unallocated}
@@ -9,18 +11,13 @@ use Rattle.ffs_volume.specs.Directories.{Naming.graph_of, Paths.{dir_path, entry
 use Rattle.ffs_volume.specs.Directories.PathnameCheck.{attributes, extra_lines, plain_lines, verdict_lines}
 use Rattle.ffs_volume.specs.Report.Reads.{line_reads, path_reads}
 use Rattle.ffs_layout.specs.Entry.{entry_value}
-use Rattle.ffs_image.specs.Known.{ForBytes}
 use Rattle.ffs_paths.specs.{DirectoryPaths.IsPathOf, KeptParents.{kept_moment, StoresChild, PathLeaves, SparesReads}}
 use Rattle.ffs_paths.specs.{LastPaths.last_path, Reads.{KnowsPlaces, OnlyReadsFew}}
 use Rattle.ffs_paths.specs.declared.{entry_paths.EntryPaths.EntryPaths, kept_parent.KeptParent.KeptParent}
 use Rattle.ffs_pathnames.specs.{KnowsNoted.{KnowsNoted, KeepsPath, KnowsPath}, Ready.LimitedPathLeaves}
 use Rattle.ffs_pathnames.specs.declared.{gather.DirectoryEntry.DirectoryEntry, entry_texts.EntryTexts.EntryTexts}
-use Rattle.ffs_pathnames.specs.PassedNames.{roled_reported, verdict_at_reading}
-use Rattle.ffs_pathnames.specs.LineReads.{ReadsPathOnce}
-use Rattle.ffs_workspace.specs.{declared.workspace.Workspace.Workspace, Lengths.IsFor}
-use Rattle.ffs_workspace.specs.Holds.{HoldsBlockCheck, HoldsSurvey}
+use Rattle.ffs_pathnames.specs.{PassedNames.{roled_reported, verdict_at_reading}, LineReads.ReadsPathOnce}
 use Rattle.ffs_pathnames.specs.Sees.{passed_of}
-use Rattle.std.specs.Prelude.{if◌then◌else◌}
 
 -- the messages are the same as with the volume's own attributes and paths
 abbrev pub IsEnough : Volume → Verdict → (dir number : ℕ) → List ℕ → Attr → (path directory : List ℕ) → Type 0

@@ -1,17 +1,16 @@
 -- What is found of a directory before its entries, and what is wrong with it, by the values of the program.
-use Rattle.std.specs.{Prelude.{◌≡◌, ◌==◌, if◌then◌else◌, Bool, List, [], ℕ, option_map, option_and_then}, Borrow.Bor}
-use Rattle.std.specs.Prelude.{Option, None, Some}
+use Rattle.std.specs.Prelude.{◌≡◌, ◌==◌, if◌then◌else◌, Bool, List, [], ℕ, option_map, option_and_then, Option, None}
+use Rattle.std.specs.{Prelude.Some, Borrow.Bor}
 use Rattle.ffs_image.specs.Device.{Device}
 use Rattle.ffs_volume.specs.{declared.{Layout.Layout, Order.Order}, Blocks.Inodes.inode_of}
 use Rattle.ffs_volume.specs.declared.verdict.{HeaderDefects.HeaderDefects, DotDefects.{DotDefects, TheVariants.Missing}}
 use Rattle.ffs_volume.specs.declared.verdict.DotDefects.TheVariants.{Other, Found}
-use Rattle.ffs_volume.specs.Directories.{PathnameCheck.{attributes, attributes_of, header_defects, header_lines}}
+use Rattle.ffs_volume.specs.Directories.PathnameCheck.{attributes, attributes_of, header_defects, header_lines}
 use Rattle.ffs_volume.specs.Directories.{Entries.Entry, Naming.graph_of, Paths.dir_path, Roles.{Volume, nth_entry}}
 use Rattle.ffs_volume.specs.Messages.Kinds.{TreeMessage}
 use Rattle.ffs_layout.specs.Entry.{entry_value}
 use Rattle.ffs_workspace.specs.declared.workspace.Workspace.{Workspace}
-use Rattle.ffs_pathnames.specs.{KnowsNoted.KnowsNoted, StartChunks.start_chunk}
-use Rattle.ffs_pathnames.specs.declared.header.HeaderFacts.{HeaderFacts}
+use Rattle.ffs_pathnames.specs.{KnowsNoted.KnowsNoted, StartChunks.start_chunk, declared.header.HeaderFacts.HeaderFacts}
 
 -- 0 means no number
 abbrev pub number_if : ℕ → Option ℕ

@@ -1,13 +1,11 @@
 -- What is known of an image's bytes during the pathname check of a directory.
 use Rattle.std.specs.Prelude.{◌≡◌, ℕ, true, IsTrue, List, Option}
-use Rattle.ffs_image.specs.Device.{Device}
-use Rattle.ffs_image.specs.Known.{ForBytes, IsContents}
-use Rattle.ffs_volume.specs.{declared.Layout.Layout, Blocks.Inodes.inode_of, Directories.Graph.Graph}
-use Rattle.ffs_volume.specs.{Directories.{Naming.graph_of, Roles.is_dir, Volumes.volume_of}, Encodings.Places.AreNoted}
+use Rattle.ffs_image.specs.{Device.Device, Known.{ForBytes, IsContents}}
+use Rattle.ffs_volume.specs.{declared.Layout.Layout, Blocks.Inodes.inode_of, Directories.{Graph.Graph, Naming.graph_of}}
+use Rattle.ffs_volume.specs.{Directories.{Roles.is_dir, Volumes.volume_of}, Encodings.Places.AreNoted}
 use Rattle.ffs_workspace.specs.{declared.workspace.Workspace.Workspace, Holds.{HoldsBlockCheck, HoldsSurvey}}
 use Rattle.ffs_paths.specs.DirectoryPaths.{IsPathOf}
-use Rattle.ffs_pathnames.specs.declared.look.Directory.{Directory}
-use Rattle.ffs_pathnames.specs.declared.entry_texts.EntryTexts.{EntryTexts}
+use Rattle.ffs_pathnames.specs.declared.{look.Directory.Directory, entry_texts.EntryTexts.EntryTexts}
 
 -- the image gives these bytes, the workspace holds what the block check and the survey leave, and the
 -- place of each directory that is reached; and x is a directory

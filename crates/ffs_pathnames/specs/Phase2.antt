@@ -1,16 +1,13 @@
 -- What phase 2 leaves at its answer, and how often it reads the image.
 use Rattle.std.specs.Prelude.{◌≡◌, ◌⊎◌, ◌≤◌, ◌+◌, ◌*◌, ℕ, true, false, [], ◌∷◌, length, Result, Ok, Err}
-use Rattle.ffs_image.specs.Device.{Device}
+use Rattle.ffs_image.specs.{Device.Device, Known.ForBytes}
 use Rattle.ffs_volume.specs.{declared.Layout.Layout, Directories.PathnameCheck.{continues_after_root, pathname_lines}}
-use Rattle.ffs_volume.specs.{Directories.Volumes.volume_of, Messages.Kinds.{phase2}, Report.Reads.line_reads}
-use Rattle.ffs_volume.specs.{Report.Reads.pathname_reads, Costs.DirectoryReads.{directories_cost, noted_directories_cost}}
-use Rattle.ffs_volume.specs.Costs.DirectoryReads.{phase2_cost}
-use Rattle.ffs_volume.specs.Report.Whole.{phase2_messages}
-use Rattle.ffs_report.specs.{Progress.{Progress, Said}, declared.fault.RunFault.RunFault}
-use Rattle.ffs_image.specs.Known.{ForBytes}
-use Rattle.ffs_report.specs.declared.fault.RunFault.TheVariants.{Read, Out}
-use Rattle.ffs_workspace.specs.{declared.workspace.Workspace.Workspace, Found.WithBlockCheck}
-use Rattle.ffs_workspace.specs.Holds.{HoldsBlockCheck, HoldsFindings}
+use Rattle.ffs_volume.specs.{Directories.Volumes.volume_of, Messages.Kinds.phase2, Report.Reads.line_reads}
+use Rattle.ffs_volume.specs.{Report.Reads.pathname_reads, Costs.DirectoryReads.directories_cost}
+use Rattle.ffs_volume.specs.{Costs.DirectoryReads.{noted_directories_cost, phase2_cost}, Report.Whole.phase2_messages}
+use Rattle.ffs_report.specs.{Progress.{Progress, Said}, declared.fault.RunFault.{RunFault, TheVariants.{Read, Out}}}
+use Rattle.ffs_workspace.specs.{declared.workspace.Workspace.Workspace, Found.WithBlockCheck, Holds.HoldsBlockCheck}
+use Rattle.ffs_workspace.specs.Holds.{HoldsFindings}
 use Rattle.ffs_pathnames.specs.{RootAnswers.SaidStop, declared.pass2.Root.{Root, TheVariants.{Go, Stop}}}
 
 -- what phase 2 leaves, by its answer.

@@ -1,12 +1,11 @@
 -- How many reads are left for first looks and second readings of directories, and what they suffice for.
 use Rattle.std.specs.Prelude.{ℕ, ◌+◌, ◌*◌, ◌≤◌, List, Result, OnOk}
 use Rattle.ffs_image.specs.{Device.Device, declared.image.ImageFault.ImageFault}
-use Rattle.ffs_volume.specs.{declared.Layout.Layout, Directories.Volumes.volume_of}
+use Rattle.ffs_volume.specs.{declared.Layout.Layout, Directories.Volumes.volume_of, Costs.DirectoryReads.directory_cost}
+use Rattle.ffs_volume.specs.Costs.DirectoryReads.{directory_runs}
 use Rattle.ffs_workspace.specs.declared.workspace.Workspace.{Workspace}
-use Rattle.ffs_volume.specs.Costs.DirectoryReads.{directory_cost, directory_runs}
 use Rattle.ffs_pathnames.specs.{declared.look.Directory.Directory, KnowsNoted.{KnowsNoted, KnowsDirectory}}
-use Rattle.ffs_pathnames.specs.{Before.KnowsBeforeNoted, PassedRight.RemembersBefore}
-use Rattle.ffs_pathnames.specs.Sees.{passed_of}
+use Rattle.ffs_pathnames.specs.{Before.KnowsBeforeNoted, PassedRight.RemembersBefore, Sees.passed_of}
 
 -- the bytes are those of KnowsNoted, and the reads that are left suffice for a first look at the directory
 abbrev pub KnowsForLook : Layout → Device → Workspace → (dir left : ℕ) → List ℕ → Type 0

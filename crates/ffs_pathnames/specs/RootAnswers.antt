@@ -1,19 +1,14 @@
 -- Whether the check continues after the root, and what that says of a read that failed.
-use Rattle.std.specs.Prelude.{◌≡◌, ℕ, Bool, true, false, List, [], ◌∷◌, ◌++◌, Result, Ok, Err, ⊤}
-use Rattle.ffs_image.specs.Device.{Device}
-use Rattle.ffs_report.specs.Progress.{Progress, Said}
-use Rattle.ffs_image.specs.Known.{ForBytes}
-use Rattle.ffs_report.specs.declared.fault.RunFault.{RunFault, TheVariants.{Read, Out}}
+use Rattle.std.specs.Prelude.{◌≡◌, ℕ, Bool, true, false, List, [], ◌∷◌, ◌++◌, Result, Ok, Err, ⊤, not, ◌||◌, ◌==◌}
+use Rattle.std.specs.Prelude.{if◌then◌else◌}
+use Rattle.ffs_image.specs.{Device.Device, Known.ForBytes}
+use Rattle.ffs_report.specs.{Progress.{Progress, Said}, declared.fault.RunFault.{RunFault, TheVariants.{Read, Out}}}
 use Rattle.ffs_volume.specs.{declared.Layout.Layout, Directories.PathnameCheck.continues_after_root}
-use Rattle.ffs_volume.specs.{Directories.Volumes.volume_of, Messages.Kinds.{Message, stops_check}}
+use Rattle.ffs_volume.specs.{Directories.Volumes.volume_of, Messages.Kinds.{Message, stops_check, TreeMessage}}
+use Rattle.ffs_volume.specs.{Messages.Kinds.{reported, of_directory}, Encodings.Kinds.{is_dir_kind, is_empty_dir_kind}}
+use Rattle.ffs_volume.specs.declared.tree_lines.DirectoryLine.TheVariants.{RootNone, RootNotDir, RootSuspect}
 use Rattle.ffs_workspace.specs.declared.workspace.Workspace.{Workspace}
 use Rattle.ffs_pathnames.specs.{Before.KnowsBefore, declared.pass2.Root.{Root, TheVariants.{Go, Stop}}}
-use Rattle.std.specs.Prelude.{not, ◌||◌, ◌==◌}
-use Rattle.ffs_volume.specs.Messages.Kinds.{TreeMessage}
-use Rattle.ffs_volume.specs.Messages.Kinds.{reported, of_directory}
-use Rattle.ffs_volume.specs.Encodings.Kinds.{is_dir_kind, is_empty_dir_kind}
-use Rattle.ffs_volume.specs.declared.tree_lines.DirectoryLine.TheVariants.{RootNone, RootNotDir, RootSuspect}
-use Rattle.std.specs.Prelude.{if◌then◌else◌}
 
 -- what is reported of the root, by its kind and by whether it is marked
 unfoldable pub root_reported : ℕ → Bool → List TreeMessage

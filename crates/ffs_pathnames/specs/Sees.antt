@@ -1,16 +1,14 @@
 -- What the lists of a workspace show of a volume.
-use Rattle.std.specs.Prelude.{◌≡◌, ℕ, Bool, List, ◌<◌, ◌≤◌, ◌/◌, ◌==◌, true, false, not, length, slice_index}
-use Rattle.std.specs.List.{slice_index_or}
+use Rattle.std.specs.Prelude.{◌≡◌, ℕ, Bool, List, ◌<◌, ◌≤◌, ◌/◌, ◌==◌, true, false, not, length, slice_index, ◌^◌}
+use Rattle.std.specs.{Prelude.vec_len, List.slice_index_or}
 use Rattle.ffs_volume.specs.Directories.{Entries.Entry, PathnameCheck.{is_silent, verdict_on}}
 use Rattle.ffs_volume.specs.{Blocks.Inodes.{is_allocated, is_unknown}, Encodings.Kinds.{class_of_kind, is_dir_kind}}
 use Rattle.ffs_volume.specs.Encodings.Kinds.{is_allocated_kind, is_unknown_kind, type_of_kind}
 use Rattle.ffs_volume.specs.Directories.{Roles.{Volume, is_dir, is_suspect}, Climb.is_value, Graph.parent}
 use Rattle.ffs_volume.specs.Directories.Naming.{graph_of}
-use Rattle.ffs_workspace.specs.Holds.{bool_at}
+use Rattle.ffs_workspace.specs.{Holds.bool_at, declared.workspace.Workspace.Workspace}
 use Rattle.ffs_survey.specs.Survey.{suspect_at}
 use Rattle.ffs_pathnames.specs.{declared.inodes.Inodes.Inodes, PassedNames.PassedNames, Stamps.stamps_of}
-use Rattle.std.specs.Prelude.{◌^◌, vec_len}
-use Rattle.ffs_workspace.specs.declared.workspace.Workspace.{Workspace}
 
 -- what a workspace remembers of the names that were passed, during the pathname check
 abbrev pub passed_of : Workspace → PassedNames

@@ -2,8 +2,7 @@
 //! first line makes that.
 ghost use Rattle.std.specs.Prelude.{◌≡◌, ℕ, List, Option};
 ghost use Rattle.ffs_volume.specs.declared.Layout.{Layout};
-ghost use Rattle.ffs_pathnames.specs.Ready.{CanMakePath};
-ghost use Rattle.ffs_pathnames.specs.Gathers.{BeginsPath, MakesPath, MakesPathLimited, SparesPath};
+ghost use Rattle.ffs_pathnames.specs.{Ready.CanMakePath, Gathers.{BeginsPath, MakesPath, MakesPathLimited, SparesPath}};
 
 use crate::paths::forget_parent;
 use ffs_image::{Image, ImageFault, LimitedImage};

@@ -1,10 +1,9 @@
 //! The lines of a plain or an extra entry.
 ghost use Rattle.ffs_workspace.specs.Moments.{work_moment};
 ghost use Rattle.ffs_volume.specs.Directories.PathnameCheck.{extra_lines};
-ghost use Rattle.ffs_pathnames.specs.{EntryLines.SaysEntryLines, Moments.{lines_moment}, Ready.{CanMakePath, LinesLeave}};
+ghost use Rattle.ffs_pathnames.specs.{EntryLines.SaysEntryLines, Moments.lines_moment, Ready.{CanMakePath, LinesLeave}};
 ghost use Rattle.ffs_pathnames.specs.{SaysTreeMessages.SaysTreeMessages, Gathers.{IsVerdictIn, extra_reported}};
-ghost use Rattle.ffs_pathnames.specs.Gathers.{plain_lines_by};
-ghost use Rattle.ffs_pathnames.specs.Sees.{HasInodeLists};
+ghost use Rattle.ffs_pathnames.specs.{Gathers.plain_lines_by, Sees.HasInodeLists};
 ghost use Rattle.ffs_layout.specs.Entry.{entry_value};
 ghost use Rattle.ffs_report.specs.Progress.{progress};
 

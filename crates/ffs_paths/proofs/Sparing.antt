@@ -1,15 +1,14 @@
 -- What a path leaves unread where that of the parent is kept.
-use Rattle.std.proofs.Common.{◌≡◌, ◌∙◌, ◌↔◌, ◌+◌, ◌≤◌, ℕ, List, Option, Some, None, Result, Ok, Err, sym, subst, refl, ap, arith}
-use Rattle.std.specs.Prelude.{OnOk}
-use Rattle.ffs_workspace.specs.Moments.{WorkMoment}
+use Rattle.std.proofs.Common.{◌≡◌, ◌∙◌, ◌↔◌, ◌+◌, ◌≤◌, ℕ, List, Option, Some, None, Result, Ok, Err, sym, subst, refl}
+use Rattle.std.{proofs.Common.{ap, arith}, specs.Prelude.OnOk}
+use Rattle.ffs_workspace.specs.{Moments.WorkMoment, declared.workspace.Workspace.Workspace}
 use Rattle.ffs_image.specs.declared.image.ImageFault.{ImageFault}
 use Rattle.ffs_volume.specs.{declared.Layout.Layout, Directories.{Naming.graph_of, Volumes.volume_of}}
-use Rattle.ffs_workspace.specs.declared.workspace.Workspace.{Workspace}
-use Rattle.ffs_paths.specs.{Climbing.IsParentOf, Reads.{HoldsPlaceOf, KnowsPlaces, names_read, ReadsName}}
-use Rattle.ffs_paths.specs.Reads.{ReadsNames, ReadsPartOf}
-use Rattle.ffs_paths.specs.KeptParents.{HasPathOf, HoldsPlaceThen, StoresChild, HoldsKeptParent, StoresPathOf, KeptMoment, PathCosts, SparesReads}
-use Rattle.ffs_paths.{specs.declared.kept_parent.KeptParent.KeptParent, proofs.Climbed.{few_more, few_then, names_more, noted_child}}
-use Rattle.ffs_paths.proofs.Keeping.{kept_so, reads_as, reads_then}
+use Rattle.ffs_paths.specs.{Climbing.IsParentOf, Reads.{HoldsPlaceOf, KnowsPlaces, names_read, ReadsName, ReadsNames}}
+use Rattle.ffs_paths.specs.{Reads.ReadsPartOf, KeptParents.{HasPathOf, HoldsPlaceThen, StoresChild, HoldsKeptParent}}
+use Rattle.ffs_paths.specs.KeptParents.{StoresPathOf, KeptMoment, PathCosts, SparesReads}
+use Rattle.ffs_paths.{specs.declared.kept_parent.KeptParent.KeptParent, proofs.Climbed.{few_more, few_then, names_more}}
+use Rattle.ffs_paths.proofs.{Climbed.noted_child, Keeping.{kept_so, reads_as, reads_then}}
 
 -- the survey found one parent at most
 one_parent : {w : Workspace} {x p q : ℕ} → IsParentOf w x p → IsParentOf w x q → p ≡ q

@@ -1,15 +1,14 @@
 -- What is kept for the path of the next directory.
 use Rattle.std.specs.Prelude.{◌≡◌, ◌⊎◌, ◌+◌, ◌*◌, ◌<◌, ◌≤◌, ℕ, List, [], ◌∷◌, ◌++◌, Option, Some, Result, OnOk}
 use Rattle.std.specs.Prelude.{slice_index}
-use Rattle.ffs_workspace.specs.Moments.{WorkMoment, work_moment}
+use Rattle.ffs_workspace.specs.{Moments.{WorkMoment, work_moment}, declared.workspace.Workspace.Workspace}
+use Rattle.ffs_workspace.specs.{Ready.CanRead, Holds.{HoldsBlockCheck, HoldsSurvey}}
 use Rattle.ffs_image.specs.{Device.Device, declared.image.{Image.Ghosts, ImageFault.ImageFault}}
 use Rattle.ffs_volume.specs.{declared.Layout.Layout, Directories.{Graph.Graph, Naming.graph_of, Paths.path_names}}
 use Rattle.ffs_volume.specs.{Directories.Volumes.volume_of, Report.Reads.path_reads, Encodings.Places.part_in}
-use Rattle.ffs_workspace.specs.{declared.workspace.Workspace.Workspace, Ready.CanRead}
-use Rattle.ffs_workspace.specs.Holds.{HoldsBlockCheck, HoldsSurvey}
 use Rattle.ffs_paths.specs.{Climbing.IsParentOf, DirectoryPaths.IsPathOf, Reads.{HoldsPlaceOf, KnowsPlaces, names_to}}
-use Rattle.ffs_paths.specs.{Reads.{OnlyReads, ReadsAtMost, ReadsNames}, Slashes.HaveNoSlash}
-use Rattle.ffs_paths.specs.{NameTexts.name_bytes, declared.kept_parent.KeptParent.KeptParent}
+use Rattle.ffs_paths.specs.{Reads.{OnlyReads, ReadsAtMost, ReadsNames}, Slashes.HaveNoSlash, NameTexts.name_bytes}
+use Rattle.ffs_paths.specs.declared.kept_parent.KeptParent.{KeptParent}
 
 -- the names down to the child are those down to the parent, and one more
 pub record LeadsTo (g : Graph) (parent child : ℕ) (name : List ℕ) : Type 0 where

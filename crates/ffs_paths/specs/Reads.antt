@@ -1,16 +1,14 @@
 -- What a call that only reads the image leaves of a workspace, and how often it reads.
-use Rattle.std.specs.Prelude.{◌≡◌, suc, ◌+◌, ◌-◌, ◌*◌, ◌/◌, ◌<◌, ◌≤◌, ℕ, min, List, length, Option, Result, Some}
-use Rattle.std.specs.{Prelude.{OnOk, slice_index, true}, Option.unwrap_or}
+use Rattle.std.specs.Prelude.{◌≡◌, suc, ◌+◌, ◌-◌, ◌*◌, ◌/◌, ◌<◌, ◌≤◌, ℕ, min, List, length, Option, Result, Some, OnOk}
+use Rattle.std.specs.{Prelude.{slice_index, true}, Option.unwrap_or}
 use Rattle.ffs_image.specs.{Device.{Device, ForContents}, Known.IsContents, Reads.{ReadAfter, ReadsAtMostOnce}}
 use Rattle.ffs_image.specs.declared.image.ImageFault.{ImageFault}
-use Rattle.ffs_volume.specs.declared.{constants.TheConstants.MAXPATHLEN, Layout.Layout}
-use Rattle.ffs_volume.specs.Directories.{Graph.{Graph, level}, Naming.graph_of, Paths.{longest_end, names_down}}
-use Rattle.ffs_volume.specs.Directories.Volumes.{volume_of}
-use Rattle.ffs_workspace.specs.declared.workspace.Workspace.{Workspace}
-use Rattle.ffs_volume.specs.Encodings.Places.{AreNoted, IsNoted, part_size, part_in}
+use Rattle.ffs_volume.specs.{declared.{constants.TheConstants.MAXPATHLEN, Layout.Layout}, Directories.Graph.Graph}
+use Rattle.ffs_volume.specs.Directories.{Graph.level, Naming.graph_of, Paths.{longest_end, names_down}}
+use Rattle.ffs_volume.specs.{Directories.Volumes.volume_of, Encodings.Places.{AreNoted, IsNoted, part_size, part_in}}
 use Rattle.ffs_volume.specs.Costs.DirectoryReads.{directory_cost}
-use Rattle.ffs_workspace.specs.{Found.WithSurvey, Moments.WorkMoment, Ready.CanRead}
-use Rattle.ffs_workspace.specs.Holds.{bool_at, HoldsBlockCheck, HoldsSurvey}
+use Rattle.ffs_workspace.specs.{declared.workspace.Workspace.Workspace, Found.WithSurvey, Moments.WorkMoment}
+use Rattle.ffs_workspace.specs.{Ready.CanRead, Holds.{bool_at, HoldsBlockCheck, HoldsSurvey}}
 
 -- the inode x can be read: the windows hold what the image gives, and its number is one of the volume
 pub record CanReadFor (v : Layout) (d : Device) (w : Workspace) (x : ℕ) : Type 0 where

@@ -1,10 +1,9 @@
 //! The path of a directory's parent, kept for the directory that comes next.
 
 ghost use Rattle.std.specs.Prelude.{◌≡◌, ◌↔◌, ◌<◌, ℕ, List, Option, Some, IfOk, OnOk, OnErr, min, vec_len};
-ghost use Rattle.ffs_workspace.specs.Moments.{work_moment};
+ghost use Rattle.ffs_workspace.specs.{Moments.work_moment, declared.workspace.Workspace.Workspace as WorkspaceIn};
 ghost use Rattle.ffs_volume.specs.{declared.Layout.Layout, Directories.Paths.dir_path};
-ghost use Rattle.ffs_workspace.specs.declared.workspace.Workspace.{Workspace as WorkspaceIn};
-ghost use Rattle.ffs_paths.specs.{Climbing.IsParentOf, DirectoryPaths.IsPathOf, Reads.{ForTree}};
+ghost use Rattle.ffs_paths.specs.{Climbing.IsParentOf, DirectoryPaths.IsPathOf, Reads.ForTree};
 ghost use Rattle.ffs_paths.specs.KeptParents.{CanKeepChild, HasPathOf, HoldsKeptParent, StoresPathOf, kept_moment};
 ghost use Rattle.ffs_paths.specs.KeptParents.{PathCosts, CanMakePath};
 

@@ -1,13 +1,12 @@
 //! The name of a directory in its parent.
 
 ghost use Rattle.std.specs.Prelude.{◌≡◌, ◌==◌, ◌+◌, ◌≤◌, ◌&&◌, ◌/◌, false, true, max, IfOk, OnOk, length};
-ghost use Rattle.ffs_workspace.specs.Moments.{work_moment};
+ghost use Rattle.ffs_workspace.specs.{Moments.work_moment, Found.WithBlockCheck};
 ghost use Rattle.ffs_image.specs.Known.{ForBytes};
 ghost use Rattle.ffs_volume.specs.Directories.{Entries.entries_of, Roles.{is_dir, is_plain, role_of, roled_from}};
 ghost use Rattle.ffs_volume.specs.{Directories.Volumes.volume_of, Encodings.Places.entries_in_chunks};
 ghost use Rattle.ffs_volume.specs.{declared.constants.TheConstants.DIRBLKSIZ, Costs.DirectoryReads.directory_cost};
 ghost use Rattle.ffs_layout.specs.Entry.{entry_value};
-ghost use Rattle.ffs_workspace.specs.Found.{WithBlockCheck};
 ghost use Rattle.ffs_paths.specs.{Climbing.{FindsFirstName, FindsName, FindsNoted, IsNameIn}, NameTexts.name_bytes};
 ghost use Rattle.ffs_paths.specs.Reads.{AsksForPlace, ForTree, CanReadFor, OnlyReads, ReadsName, ReadsPlace};
 

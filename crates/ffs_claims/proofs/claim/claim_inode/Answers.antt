@@ -1,11 +1,9 @@
 use Rattle.std.proofs.{Common.{arith, ap, ◌∙◌}, lemmas.Result.on_err_weaker}
-use Rattle.ffs_volume.specs.Blocks.{Claims.{at_next_inode}}
-use Rattle.ffs_volume.specs.{Blocks.{Owners.owner_of, Steps.steps_of}, Costs.VolumeReads.indirect_in_steps}
-use Rattle.ffs_report.{proofs.Reporting.{reads_first, reports_same}}
-use Rattle.ffs_workspace.{specs.{Holds.claims_of, Tables.TakesPiece}}
-use Rattle.ffs_claims.proofs.Frames.{stay}
-use Rattle.ffs_claims.{proofs.Inodes.{steps_rise, used_below}}
-use Rattle.ffs_volume.proofs.Results.{on_any}
+use Rattle.ffs_volume.specs.Blocks.{Claims.at_next_inode, Owners.owner_of, Steps.steps_of}
+use Rattle.ffs_volume.{specs.Costs.VolumeReads.indirect_in_steps, proofs.Results.on_any}
+use Rattle.ffs_report.proofs.Reporting.{reads_first, reports_same}
+use Rattle.ffs_workspace.specs.{Holds.claims_of, Tables.TakesPiece}
+use Rattle.ffs_claims.proofs.{Frames.stay, Inodes.{steps_rise, used_below}}
 use Rattle.ffs_claims.proofs.claim.claim_inode.Goals as goal
 
 pub claim_read_inode-requires : goal.claim_read_inode-requires

@@ -1,18 +1,17 @@
 use Rattle.std.proofs.Common.{ℕ, suc, arith, refl, ◌≡◌, ◌∙◌, ap, sym, List, ◌++◌, ◌∷◌, false, replicate, []}
-use Rattle.ffs_volume.proofs.{Potentials.moves_then, Results.fails_with}
-use Rattle.ffs_volume.specs.Blocks.Claims.{after_step, after_steps, lines_of_steps, is_open}
-use Rattle.ffs_volume.specs.Blocks.Steps.{steps_of}
+use Rattle.ffs_volume.{proofs.{Potentials.moves_then, Results.fails_with}, specs.Blocks.Claims.after_step}
+use Rattle.ffs_volume.specs.Blocks.{Claims.{after_steps, lines_of_steps, is_open}, Steps.steps_of}
 use Rattle.ffs_volume.specs.{declared.Step.TheVariants.Gap, Costs.VolumeReads.indirect_in_steps}
 use Rattle.ffs_report.proofs.Reporting.{of_begins, of_stops, of_reads, of_same, says_none}
 use Rattle.ffs_image.specs.Device.{ForContents}
 use Rattle.ffs_walk.{proofs.{Counted.{top_held, top_unread}, WalkSteps.top_ends}, specs.Rests.steps_left}
 use Rattle.ffs_workspace.specs.Holds.{claims_of}
 use Rattle.ffs_claims.proofs.{Frames.{can_walk, ready_still, ready_read, only_then}, Inodes.{sees_next, moves_on}}
-use Rattle.ffs_claims.proofs.{Inodes.{seen_bound, claiming_none, claiming_walked, claiming_on}, StepsContinue.cut_over}
-use Rattle.ffs_claims.proofs.Inodes.{step_most, steps_rise}
-use Rattle.ffs_claims.proofs.StepsContinue.{gaps_over, claims_on, lines_on, steps_said, without_steps}
-use Rattle.ffs_claims.proofs.{IndirectReads.{gaps_unseen, indirect_on}, claim.claim_steps.Goals.{in-Gap, in_default-matches}}
-use Rattle.ffs_claims.{proofs.WordClaims.{sees_for, words_for}, specs.Lines.of_lines}
+use Rattle.ffs_claims.proofs.Inodes.{seen_bound, claiming_none, claiming_walked, claiming_on, step_most, steps_rise}
+use Rattle.ffs_claims.proofs.StepsContinue.{cut_over, gaps_over, claims_on, lines_on, steps_said, without_steps}
+use Rattle.ffs_claims.proofs.{IndirectReads.{gaps_unseen, indirect_on}, claim.claim_steps.Goals.in-Gap}
+use Rattle.ffs_claims.proofs.{claim.claim_steps.Goals.in_default-matches, WordClaims.{sees_for, words_for}}
+use Rattle.ffs_claims.specs.Lines.{of_lines}
 use Rattle.ffs_claims.proofs.claim.claim_steps.Goals as goal
 
 pub returns-then-not-has_steps : goal.returns-then-not-has_steps

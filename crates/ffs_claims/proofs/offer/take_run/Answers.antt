@@ -1,11 +1,9 @@
 use Rattle.std.proofs.Common.{ℕ, Option, None, Some, ◌+◌, ◌<◌, ◌≤◌, rules, sym, ◌∙◌, arith}
-use Rattle.std.proofs.{lemmas.Bool.Decides.nat_tests}
-use Rattle.std.proofs.lemmas.Result.{err_from_is_err_and}
+use Rattle.std.proofs.lemmas.{Bool.Decides.nat_tests, Result.err_from_is_err_and}
 use Rattle.ffs_volume.specs.declared.Step.TheVariants.{Run}
 use Rattle.ffs_walk.specs.Counts.{entered}
 use Rattle.ffs_workspace.specs.Holds.{claims_of}
-use Rattle.ffs_claims.proofs.Inodes.{run_more}
-use Rattle.ffs_claims.proofs.StepsContinue.{run_stops, run_stops_later, run_said}
+use Rattle.ffs_claims.proofs.{Inodes.run_more, StepsContinue.{run_stops, run_stops_later, run_said}}
 use Rattle.ffs_claims.proofs.offer.take_run.Goals as goal
 
 -- a Run more is counted, of whichever block it is

@@ -1,5 +1,4 @@
-use Rattle.std.proofs.Common.{◌≡◌, true, nat_lt, arith, refl, sym}
-use Rattle.std.proofs.lemmas.{Bool.Decides.nat_tests}
+use Rattle.std.proofs.{Common.{◌≡◌, true, nat_lt, arith, refl, sym}, lemmas.Bool.Decides.nat_tests}
 use Rattle.ffs_report.proofs.Reports.{said_none}
 use Rattle.ffs_workspace.specs.Holds.{claims_of}
 use Rattle.ffs_claims.proofs.{Frames.{offers_claimed, stay_claimed}, UnclaimedRuns.{whole_is, run_below}}

@@ -1,25 +1,23 @@
 use Rattle.std.proofs.Common.{◌≡◌, ◌+◌, false, arith, refl, subst, sym, ◌-◌, ◌≤◌, ◌<◌, ap, ◌∙◌, Err, Ok, inl, inr, ◌*◌}
 use Rattle.std.proofs.lemmas.{Result.err_from_is_err_and, Bool.cases_lt}
 use Rattle.ffs_volume.{proofs.OwnerLaws.before_next, specs.Blocks.{BlockCheck.phase1_lines, Claims.after_owner}}
-use Rattle.ffs_volume.specs.{Blocks.{KeptSteps.claims_before, Owners.{owner_of, owners_of}}, Report.Whole.run_count}
-use Rattle.ffs_volume.{specs.Blocks.Claims.all_claims, proofs.Results.fails_with}
-use Rattle.ffs_volume.{specs.{Blocks.Inodes.inodes_of, Laws.ClaimBounds.used_bits}, proofs.Sizes.some_inodes}
+use Rattle.ffs_volume.specs.Blocks.{Claims.all_claims, KeptSteps.claims_before, Owners.{owner_of, owners_of}}
+use Rattle.ffs_volume.{specs.{Report.Whole.run_count, Blocks.Inodes.inodes_of}, proofs.Results.fails_with}
+use Rattle.ffs_volume.{specs.Laws.ClaimBounds.used_bits, proofs.Sizes.some_inodes}
 use Rattle.ffs_report.proofs.Reporting.{of_part, of_fault, of_same, reports_knowing, says_heading, stops_heading}
 use Rattle.ffs_report.proofs.Reporting.{heading_alone, heading_part, said_knows}
 use Rattle.ffs_image.specs.Known.{ForBytes}
 use Rattle.ffs_workspace.{proofs.Leaving.fresh_held, specs.{Found.WithFresh, Holds.claims_of}}
 use Rattle.ffs_workspace.specs.declared.workspace.Workspace.{Workspace}
 use Rattle.ffs_maps.specs.Bits.{bits_of}
-use Rattle.ffs_claims.{specs.Leaves.StaySet, proofs.Duplicates.{any_set, rescan_is}}
-use Rattle.ffs_claims.proofs.Frames.{changes_then, found_none, fresh_surveyed, ready_begun}
-use Rattle.ffs_claims.proofs.Frames.{ready_still, ready_surveyed, zeros_passed}
+use Rattle.ffs_claims.{specs.Leaves.StaySet, proofs.{Duplicates.{any_set, rescan_is}, Frames.changes_then}}
+use Rattle.ffs_claims.proofs.Frames.{found_none, fresh_surveyed, ready_begun, ready_still, ready_surveyed, zeros_passed}
 use Rattle.ffs_claims.proofs.{Inodes.used_below, Numbers.{found_begins, found_cut, found_next, found_all, numbers_most}}
 use Rattle.ffs_claims.proofs.{Numbers.{before_first, before_end, lines_next}, TableReads.{blocks_all, blocks_failed}}
-use Rattle.ffs_claims.proofs.{TableReads.{blocks_later, blocks_next}, IndirectReads.{VolumeRead, read_all}}
-use Rattle.ffs_claims.proofs.{IndirectReads.{read_begins, read_failed, read_later, read_next}, FreeInodes.AreFree}
-use Rattle.ffs_claims.proofs.{BeforeFaults.said_below, IndirectReads.read_failed_at, Rescanned.runs_most}
-use Rattle.ffs_claims.specs.BeforeFault.{lines_from_inode}
+use Rattle.ffs_claims.proofs.{TableReads.{blocks_later, blocks_next}, IndirectReads.{VolumeRead, read_all, read_begins}}
+use Rattle.ffs_claims.proofs.{IndirectReads.{read_failed, read_later, read_next, read_failed_at}, FreeInodes.AreFree}
 use Rattle.ffs_claims.proofs.FreeInodes.{StandsAt, free_by_bytes, has_inodes, lines_later, stands_later}
+use Rattle.ffs_claims.{proofs.{BeforeFaults.said_below, Rescanned.runs_most}, specs.BeforeFault.lines_from_inode}
 use Rattle.ffs_claims.proofs.pass1.phase1.Goals as goal
 
 pub returns-in_err-say-clause-text : goal.returns-in_err-say-clause-text

@@ -1,13 +1,12 @@
 use Rattle.std.proofs.Common.{false, ◌≡◌, ◌+◌, ◌-◌, ◌*◌, ◌<◌, ◌≤◌, ◌∷◌, Ok}
-use Rattle.ffs_volume.specs.Blocks.{BlockCheck.lines_of_owners, BlockCheck.phase1_lines, KeptSteps.claims_before}
+use Rattle.ffs_volume.specs.Blocks.{BlockCheck.{lines_of_owners, phase1_lines}, KeptSteps.claims_before}
 use Rattle.ffs_volume.specs.{Blocks.Owners.owners_of, Laws.ClaimBounds.used_bits, Messages.Kinds.phase1}
+use Rattle.ffs_volume.specs.Blocks.Inodes.{inodes_of}
 use Rattle.ffs_report.specs.{PhaseOutcome.{HeadingFirst, SaidOf}, Progress.progress}
 use Rattle.ffs_image.specs.Known.{ForBytes}
 use Rattle.ffs_workspace.specs.{Found.WithFresh, Holds.claims_of}
-use Rattle.ffs_volume.specs.Blocks.Inodes.{inodes_of}
 use Rattle.ffs_claims.proofs.{IndirectReads.VolumeRead, Numbers.FoundTo, TableReads.BlocksRead}
-use Rattle.ffs_claims.{specs.Claiming.CanClaim}
-use Rattle.ffs_claims.specs.{Leaves.ClaimsAndFinds, Lines.{of_lines, owners_from}}
+use Rattle.ffs_claims.specs.{Claiming.CanClaim, Leaves.ClaimsAndFinds, Lines.{of_lines, owners_from}}
 use Rattle.ffs_claims.proofs.pass1.phase1.Given as goal
 
 abbrev pub invariant-loop-number : goal.invariant-loop-number

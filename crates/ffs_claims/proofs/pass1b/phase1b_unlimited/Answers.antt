@@ -1,31 +1,28 @@
 use Rattle.std.proofs.Common.{Result, Ok, ◌≡◌, ◌≤◌, ◌+◌, ◌-◌, ◌^◌, ◌<◌, ◌∷◌, [], arith, refl, ap, ◌∙◌, Err}
 use Rattle.std.proofs.lemmas.Result.{err_from_is_err_and}
 use Rattle.ffs_volume.{proofs.{RunBounds.runs_bounded, Results.fails_with}, specs.Blocks.BlockCheck.first_offer_lines}
-use Rattle.ffs_volume.specs.{Blocks.{KeptSteps.claims_before, Owners.owners_of}, Messages.Kinds.phase1b}
+use Rattle.ffs_volume.specs.Blocks.{BlockCheck.{set_count, after_first}, KeptSteps.claims_before, Owners.owners_of}
+use Rattle.ffs_volume.specs.{Messages.Kinds.phase1b, Blocks.{Inodes.inodes_of, Claims.all_claims}}
+use Rattle.ffs_volume.{specs.Costs.RescanRuns.{runs_until_reported, rescan_runs}, proofs.OwnerLaws.before_next}
+use Rattle.ffs_volume.proofs.Sizes.{some_inodes}
 use Rattle.ffs_report.proofs.Reporting.{of_begins, of_says, of_part, of_fault, of_stops, of_same, reports_knowing}
 use Rattle.ffs_report.proofs.Reporting.{heading_alone, heading_part, said_knows}
 use Rattle.ffs_report.specs.declared.fault.RunFault.{RunFault}
 use Rattle.ffs_image.specs.Known.{ForBytes}
 use Rattle.ffs_maps.specs.Bits.{bits_of}
 use Rattle.ffs_workspace.specs.{Found.WithPhase1, declared.workspace.Workspace.Workspace}
-use Rattle.ffs_volume.specs.Blocks.{Inodes.inodes_of, Claims.all_claims, BlockCheck.{set_count, after_first}}
-use Rattle.ffs_volume.specs.Costs.RescanRuns.{runs_until_reported, rescan_runs}
-use Rattle.ffs_claims.proofs.{Clearing.{clears_after, clears_none, none_to_clear, clears_stopped, clears_then}}
-use Rattle.ffs_claims.proofs.{FirstOffers.all_reported}
-use Rattle.ffs_claims.proofs.Duplicates.{none_first, none_left, some_left}
-use Rattle.ffs_claims.proofs.Frames.{claims_none, claims_then, ready_again}
-use Rattle.ffs_claims.proofs.{Numbers.{numbers_most, before_first}, Reportings.{reporting_more, reporting_ends}}
-use Rattle.ffs_claims.proofs.{Reportings.{reporting_begins, lines_split, reporting_over}, RescanCounts.look_most}
-use Rattle.ffs_claims.proofs.{RescanCounts.looked_none, Reportings.{part_none, part_then}}
-use Rattle.ffs_claims.proofs.Rescanned.{IsNoted, inodes_on, is_noted, offers_at, runs_at, kept_from}
-use Rattle.ffs_claims.proofs.Rescanned.{runs_from, looked_on, looked_end, kept_next, kept_end, runs_on, runs_most}
-use Rattle.ffs_claims.proofs.{Rescanned.claims_hold, Rewalks.{runs_pay_all, runs_pay_then}}
-use Rattle.ffs_claims.proofs.IndirectReads.{read_all, read_begins, read_failed}
-use Rattle.ffs_claims.proofs.IndirectReads.{read_failed_until, read_next, read_until}
-use Rattle.ffs_claims.proofs.{BeforeFaults.{fails_on, said_below}, IndirectReads.read_failed_at}
-use Rattle.ffs_claims.{proofs.Rescanned.indirect_noted, specs.BeforeFault.dups_from_inode}
-use Rattle.ffs_volume.proofs.{OwnerLaws.before_next, Sizes.some_inodes}
-use Rattle.ffs_claims.specs.{Lines.of_lines, Phases.{WithNotes, phase1b_messages_for}, RescanRuns.rescan_end}
+use Rattle.ffs_claims.proofs.Clearing.{clears_after, clears_none, none_to_clear, clears_stopped, clears_then}
+use Rattle.ffs_claims.proofs.{FirstOffers.all_reported, Duplicates.{none_first, none_left, some_left}}
+use Rattle.ffs_claims.proofs.{Frames.{claims_none, claims_then, ready_again}, Numbers.{numbers_most, before_first}}
+use Rattle.ffs_claims.proofs.Reportings.{reporting_more, reporting_ends, reporting_begins, lines_split, reporting_over}
+use Rattle.ffs_claims.proofs.{Reportings.{part_none, part_then}, RescanCounts.{look_most, looked_none}}
+use Rattle.ffs_claims.proofs.Rescanned.{IsNoted, inodes_on, is_noted, offers_at, runs_at, kept_from, runs_from}
+use Rattle.ffs_claims.proofs.Rescanned.{looked_on, looked_end, kept_next, kept_end, runs_on, runs_most, claims_hold}
+use Rattle.ffs_claims.proofs.{Rescanned.indirect_noted, Rewalks.{runs_pay_all, runs_pay_then}, IndirectReads.read_all}
+use Rattle.ffs_claims.proofs.IndirectReads.{read_begins, read_failed, read_failed_until, read_next, read_until}
+use Rattle.ffs_claims.proofs.{IndirectReads.read_failed_at, BeforeFaults.{fails_on, said_below}}
+use Rattle.ffs_claims.specs.{BeforeFault.dups_from_inode, Lines.of_lines, Phases.{WithNotes, phase1b_messages_for}}
+use Rattle.ffs_claims.specs.RescanRuns.{rescan_end}
 use Rattle.ffs_claims.proofs.pass1b.phase1b_unlimited.Goals as goal
 
 pub returns-in_err-say-clause-again : goal.returns-in_err-say-clause-again

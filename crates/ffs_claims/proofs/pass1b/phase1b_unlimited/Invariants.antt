@@ -1,16 +1,14 @@
 use Rattle.std.proofs.Common.{◌≡◌, ◌+◌, ◌-◌, ◌<◌, ◌≤◌, Ok}
 use Rattle.ffs_volume.specs.Blocks.{BlockCheck.{first_offer_lines, set_count}, Inodes.inodes_of}
-use Rattle.ffs_volume.specs.Costs.RescanRuns.{rescan_runs, runs_until_reported}
-use Rattle.ffs_volume.specs.Blocks.KeptSteps.{claims_before}
+use Rattle.ffs_volume.specs.{Costs.RescanRuns.{rescan_runs, runs_until_reported}, Blocks.KeptSteps.claims_before}
+use Rattle.ffs_volume.specs.Messages.Kinds.{phase1b}
 use Rattle.ffs_report.specs.{PhaseOutcome.{HeadingFirst, SaidOf}, Progress.progress}
 use Rattle.ffs_image.specs.Known.{ForBytes}
-use Rattle.ffs_volume.specs.Messages.Kinds.{phase1b}
 use Rattle.ffs_maps.specs.Bits.{bits_of}
 use Rattle.ffs_workspace.specs.{Found.WithPhase1, Ready.CanRead}
-use Rattle.ffs_claims.{proofs.{IndirectReads.VolumeRead, Reportings.Reporting, Rescanned.{each_from, kept_from, runs_from}}}
-use Rattle.ffs_claims.specs.Lines.{of_lines}
-use Rattle.ffs_claims.specs.{Moments.claim_moment, Phases.{WithNotes, kept_offers, phase1b_messages_for}}
-use Rattle.ffs_claims.specs.Reporting.{ClearsAsSaid, Phase1bKeeps}
+use Rattle.ffs_claims.proofs.{IndirectReads.VolumeRead, Reportings.Reporting, Rescanned.{each_from, kept_from}}
+use Rattle.ffs_claims.{proofs.Rescanned.runs_from, specs.{Lines.of_lines, Moments.claim_moment, Phases.WithNotes}}
+use Rattle.ffs_claims.specs.{Phases.{kept_offers, phase1b_messages_for}, Reporting.{ClearsAsSaid, Phase1bKeeps}}
 use Rattle.ffs_claims.specs.RescanRuns.{RunsPay, rescan_end}
 use Rattle.ffs_claims.proofs.pass1b.phase1b_unlimited.Given as goal
 

@@ -2,14 +2,13 @@ use Rattle.std.proofs.Common.{◌∙◌, [], arith, refl, ap, length, List}
 use Rattle.ffs_volume.{specs.Blocks.BlockCheck.{first_offer_lines, set_count}, proofs.Results.fails_with}
 use Rattle.ffs_report.proofs.Reporting.{of_begins, of_reads, of_same, of_says, of_stops}
 use Rattle.ffs_maps.specs.Bits.{bits_of}
-use Rattle.ffs_walk.proofs.{Counted.{top_held, top_unread}, ReplayedRuns.indirect_most}
-use Rattle.ffs_walk.specs.SeenRuns.{seen_runs_left}
+use Rattle.ffs_walk.{proofs.{Counted.{top_held, top_unread}, ReplayedRuns.indirect_most}, specs.SeenRuns.seen_runs_left}
 use Rattle.ffs_claims.proofs.{Duplicates.{none_first, none_left, some_left}, Frames.{can_walk, claims_none, ready_read}}
 use Rattle.ffs_claims.proofs.{Frames.ready_walked, Reportings.{lines_split, part_from, part_now, part_then}}
-use Rattle.ffs_claims.proofs.Clearing.{clears_from, clears_none, clears_read, clears_then}
-use Rattle.ffs_claims.proofs.Rewalks.{counted_most, rereads_on, rewalk_begins, rewalk_ends, rewalk_on, rewalk_over, runs_pay_on}
-use Rattle.ffs_workspace.specs.declared.workspace.Windows.{Windows}
+use Rattle.ffs_claims.proofs.{Clearing.{clears_from, clears_none, clears_read, clears_then}, Rewalks.counted_most}
+use Rattle.ffs_claims.proofs.Rewalks.{rereads_on, rewalk_begins, rewalk_ends, rewalk_on, rewalk_over, runs_pay_on}
 use Rattle.ffs_claims.specs.{Lines.of_lines, RescanRuns.{indirect_among, offers_of_runs}}
+use Rattle.ffs_workspace.specs.declared.workspace.Windows.{Windows}
 use Rattle.ffs_claims.proofs.pass1b.rewalk.Goals as goal
 
 pub loop-run-init : goal.loop-run-init

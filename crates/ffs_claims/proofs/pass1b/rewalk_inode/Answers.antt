@@ -1,13 +1,10 @@
-use Rattle.ffs_claims.proofs.Clearing.{clears_read}
-use Rattle.ffs_claims.proofs.Clearing.{clears_none}
-use Rattle.std.proofs.{Common.{◌∙◌, ap, arith, refl}}
+use Rattle.ffs_claims.proofs.{Clearing.{clears_read, clears_none, clears_from}, Reportings.part_none}
+use Rattle.ffs_claims.specs.{Lines.of_lines, RescanRuns.{indirect_among, noted_runs, offers_of_runs}}
+use Rattle.std.proofs.Common.{◌∙◌, ap, arith, refl}
 use Rattle.ffs_report.proofs.Reporting.{reads_first, reports_knowing, reports_same}
 use Rattle.ffs_workspace.specs.Tables.{TakesPiece}
-use Rattle.ffs_claims.{proofs.{Clearing.clears_from, Reportings.part_none}, specs.Lines.of_lines}
-use Rattle.ffs_claims.specs.RescanRuns.{indirect_among, noted_runs, offers_of_runs}
 use Rattle.ffs_maps.specs.Bits.{bits_of}
-use Rattle.ffs_volume.specs.Blocks.BlockCheck.{first_offer_lines}
-use Rattle.ffs_volume.proofs.Results.{on_any}
+use Rattle.ffs_volume.{specs.Blocks.BlockCheck.first_offer_lines, proofs.Results.on_any}
 use Rattle.ffs_claims.proofs.pass1b.rewalk_inode.Goals as goal
 
 pub rewalk-requires : goal.rewalk-requires

@@ -1,6 +1,5 @@
 use Rattle.std.proofs.Common.{ap, arith, ◌∙◌, rules}
-use Rattle.ffs_maps.specs.{Bits.bits_of, Reserved.with_reserved}
-use Rattle.ffs_maps.proofs.Bits.{bits_long}
+use Rattle.ffs_maps.{specs.{Bits.bits_of, Reserved.with_reserved}, proofs.Bits.bits_long}
 use Rattle.ffs_workspace.specs.{Holds.claims_of, declared.workspace.Workspace.Workspace}
 use Rattle.ffs_claims.{specs.Leaves.StaySet, proofs.{Frames.{stay, stay_reserved}, Reserved.reserved_claims}}
 use Rattle.ffs_claims.proofs.reserve.reserve.Goals as goal

@@ -1,8 +1,7 @@
 use Rattle.std.proofs.Common.{◌<◌, arith, refl, ◌∙◌}
-use Rattle.ffs_maps.proofs.Bits.{bits_long}
-use Rattle.ffs_maps.specs.Bits.{bits_of}
-use Rattle.ffs_claims.proofs.Frames.{stay, stay_claimed}
-use Rattle.ffs_claims.{specs.SilentAddresses.with_run_counts, proofs.{SeriesClaims.series_words, UnclaimedRuns.run_below}}
+use Rattle.ffs_maps.{proofs.Bits.bits_long, specs.Bits.bits_of}
+use Rattle.ffs_claims.{proofs.Frames.{stay, stay_claimed}, specs.SilentAddresses.with_run_counts}
+use Rattle.ffs_claims.proofs.{SeriesClaims.series_words, UnclaimedRuns.run_below}
 use Rattle.ffs_claims.proofs.silent_addresses.claim_series.Goals as goal
 
 pub claim-requires : goal.claim-requires

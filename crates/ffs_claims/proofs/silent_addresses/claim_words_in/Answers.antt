@@ -1,5 +1,4 @@
-use Rattle.std.proofs.Common.{arith}
-use Rattle.std.proofs.Common.{ap, sym}
+use Rattle.std.proofs.Common.{arith, ap, sym}
 use Rattle.ffs_claims.proofs.WordClaims.{sees_for, sees_still, words_for, words_then}
 use Rattle.ffs_claims.proofs.silent_addresses.claim_words_in.Goals as goal
 

@@ -1,14 +1,13 @@
-use Rattle.std.proofs.Common.{◌+◌, ap, refl, ◌∙◌, arith, rules, Err, Ok}
-use Rattle.std.proofs.lemmas.Result.{err_from_is_err_and}
+use Rattle.std.proofs.{Common.{◌+◌, ap, refl, ◌∙◌, arith, rules, Err, Ok}, lemmas.Result.err_from_is_err_and}
 use Rattle.ffs_volume.{specs.Directories.Volumes.volume_of, proofs.Numbered.{as_many, count_next, from_next, from_end}}
-use Rattle.ffs_report.proofs.Paying.{paid_answer, paid_fault, paid_says, paid_stops, paid_then}
-use Rattle.ffs_image.specs.Known.{ForBytes}
-use Rattle.ffs_report.proofs.Reporting.{of_fault, of_part, of_same, reports_knowing, said_knows, says_heading}
-use Rattle.ffs_report.proofs.Reporting.{heading_alone, heading_part, stops_heading}
-use Rattle.ffs_workspace.{specs.{Found.WithSurvey, declared.workspace.Workspace.Workspace}, proofs.PlaceLaws.filled_noted}
 use Rattle.ffs_volume.{specs.Blocks.Inodes.inodes_of, proofs.Results.fails_with}
-use Rattle.ffs_workspace.proofs.Leaving.{claims_left, survey_left, leaves_more, windows_leave}
 use Rattle.ffs_volume.specs.Directories.Connectivity.{unref_dir_lines}
+use Rattle.ffs_report.proofs.{Paying.{paid_answer, paid_fault, paid_says, paid_stops, paid_then}, Reporting.of_fault}
+use Rattle.ffs_report.proofs.Reporting.{of_part, of_same, reports_knowing, said_knows, says_heading, heading_alone}
+use Rattle.ffs_report.proofs.Reporting.{heading_part, stops_heading}
+use Rattle.ffs_image.specs.Known.{ForBytes}
+use Rattle.ffs_workspace.specs.{Found.WithSurvey, declared.workspace.Workspace.Workspace}
+use Rattle.ffs_workspace.proofs.{PlaceLaws.filled_noted, Leaving.{claims_left, survey_left, leaves_more, windows_leave}}
 use Rattle.ffs_connectivity.proofs.UnrefLines.{fails_after, lines_begin, lines_from_dir}
 use Rattle.ffs_connectivity.proofs.pass3.phase3.Goals.{At-loop-number}
 use Rattle.ffs_connectivity.proofs.pass3.phase3.Given as given

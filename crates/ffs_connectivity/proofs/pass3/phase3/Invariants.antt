@@ -1,11 +1,10 @@
 use Rattle.std.proofs.Common.{◌≡◌, ◌+◌, ◌-◌, ◌≤◌, length, Ok}
 use Rattle.ffs_report.specs.{Paid.Paid, PhaseOutcome.{HeadingFirst, SaidOf}, Progress.progress}
 use Rattle.ffs_image.specs.Known.{ForBytes}
-use Rattle.ffs_volume.specs.{Directories.{Connectivity.connectivity_lines, Volumes.volume_of}, Report.Whole.phase3_messages}
-use Rattle.ffs_volume.specs.{Messages.Kinds.{lines_from, phase3}, Blocks.Inodes.inodes_of}
+use Rattle.ffs_volume.specs.Directories.{Connectivity.{connectivity_lines, unref_dir_lines}, Volumes.volume_of}
+use Rattle.ffs_volume.specs.{Report.Whole.phase3_messages, Messages.Kinds.{lines_from, phase3}, Blocks.Inodes.inodes_of}
 use Rattle.ffs_workspace.specs.{Found.WithSurvey, Leaves.LeavesSurvey, Ready.CanRead}
 use Rattle.ffs_connectivity.{specs.Leaders.HasLeaders, proofs.UnrefLines.lines_from_dir}
-use Rattle.ffs_volume.specs.Directories.Connectivity.{unref_dir_lines}
 use Rattle.ffs_connectivity.proofs.pass3.phase3.Given as goal
 
 abbrev pub invariant-loop-number : goal.invariant-loop-number

@@ -1,17 +1,14 @@
 use Rattle.std.proofs.{Common.{◌≡◌, ◌∷◌, [], map, refl, ◌∙◌, arith, rules, true}, lemmas.Result.err_from_is_err_and}
-use Rattle.ffs_volume.specs.{Directories.{Connectivity.is_unref_dir, Volumes.volume_of}, Messages.Kinds.of_tree}
-use Rattle.ffs_report.proofs.Paying.{paid_none, paid_reads, paid_stops}
+use Rattle.ffs_volume.specs.Directories.{Connectivity.{is_unref_dir, unref_dir_lines}, Volumes.volume_of}
+use Rattle.ffs_volume.specs.Messages.Kinds.{of_tree, of_reference}
+use Rattle.ffs_volume.specs.declared.tree_lines.ReferenceLine.TheVariants.{UnrefDir}
+use Rattle.ffs_report.proofs.{Paying.{paid_none, paid_reads, paid_stops}, Reporting.{reads_first, says_none, stops_all}}
 use Rattle.ffs_image.specs.Known.{ForBytes}
-use Rattle.ffs_report.proofs.Reporting.{reads_first, says_none, stops_all}
 use Rattle.ffs_workspace.{specs.Found.WithSurvey, proofs.TablePlaces.{fails_in_block, fails_in_table}}
-use Rattle.ffs_volume.specs.Directories.Connectivity.{unref_dir_lines}
-use Rattle.ffs_connectivity.proofs.{UnrefLaws.unref_held, UnrefLines.{attributes_are, one_line}}
-use Rattle.ffs_connectivity.proofs.{UnrefLines.silent, unref.report_unref.Goals.After-is_unref-unref}
-use Rattle.ffs_connectivity.proofs.unref.report_unref.Goals.{After-of}
+use Rattle.ffs_connectivity.proofs.{UnrefLaws.unref_held, UnrefLines.{attributes_are, one_line, silent}}
+use Rattle.ffs_connectivity.proofs.unref.report_unref.Goals.{After-is_unref-unref, After-of}
 use Rattle.ffs_connectivity.proofs.unref.report_unref.Given as given
 use Rattle.ffs_connectivity.proofs.unref.report_unref.Goals as goal
-use Rattle.ffs_volume.specs.declared.tree_lines.ReferenceLine.TheVariants.{UnrefDir}
-use Rattle.ffs_volume.specs.Messages.Kinds.{of_reference}
 
 -- what the test says of the inode
 tested : (g : given.Over) (c : After-is_unref-unref g) →

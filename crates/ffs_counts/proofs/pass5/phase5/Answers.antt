@@ -1,19 +1,17 @@
 use Rattle.std.proofs.Common.{◌≡◌, ◌∙◌, ◌+◌, ◌++◌, [], ap, arith, map, refl}
 use Rattle.ffs_volume.specs.{declared.BlockMessage.TheVariants.FreeCounts, Groups.GroupCheck.AlreadyReported}
-use Rattle.ffs_volume.specs.{Groups.GroupCheck.{reported_once, unless}, Messages.Kinds.of_blocks}
+use Rattle.ffs_volume.specs.Groups.GroupCheck.{reported_once, unless, group_lines, is_free_of_kept}
+use Rattle.ffs_volume.specs.{Messages.Kinds.of_blocks, Blocks.Owners.owners_of, Directories.Volumes.class_at}
+use Rattle.ffs_volume.proofs.Results.{fails_with}
 use Rattle.ffs_groups.specs.{Check.lines_of, Inodes.class_in}
-use Rattle.ffs_report.proofs.Reporting.{of_says, of_stops, of_reads, says_all, says_heading}
+use Rattle.ffs_report.proofs.Reporting.{of_says, of_stops, of_reads, says_all, says_heading, heading_alone}
+use Rattle.ffs_report.proofs.Reporting.{heading_then, stops_heading}
 use Rattle.ffs_image.specs.Known.{ForBytes}
-use Rattle.ffs_report.proofs.Reporting.{heading_alone, heading_then, stops_heading}
 use Rattle.ffs_workspace.specs.Found.{WithBlockCheck}
 use Rattle.ffs_counts.{specs.Once.{reported_of, reported_after}, proofs.GroupText.{counts_held, free_of, groups_begin}}
 use Rattle.ffs_counts.proofs.GroupText.{groups_go_on, groups_end, lines_after, totals_next, totals_right, up_next}
-use Rattle.ffs_counts.proofs.{GroupReads.reads_next, Holding.held_on}
-use Rattle.ffs_counts.proofs.GroupsBelow.{before_next, group_held, once_next}
-use Rattle.ffs_volume.{specs.{Blocks.Owners.owners_of, Directories.Volumes.class_at}, proofs.Results.fails_with}
-use Rattle.ffs_volume.specs.Groups.GroupCheck.{group_lines, is_free_of_kept}
-use Rattle.ffs_counts.proofs.SaidMore.{said_more}
-use Rattle.ffs_counts.proofs.pass5.phase5.Goals.{After-agree_with-right, In_ok-found}
+use Rattle.ffs_counts.proofs.{GroupReads.reads_next, Holding.held_on, GroupsBelow.{before_next, group_held, once_next}}
+use Rattle.ffs_counts.proofs.{SaidMore.said_more, pass5.phase5.Goals.{After-agree_with-right, In_ok-found}}
 use Rattle.ffs_counts.proofs.pass5.phase5.Given as given
 use Rattle.ffs_counts.proofs.pass5.phase5.Goals as goal
 

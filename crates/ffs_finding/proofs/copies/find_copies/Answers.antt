@@ -1,9 +1,8 @@
-use Rattle.std.proofs.Common.{◌≡◌, ◌+◌, ◌-◌, ℕ, arith, ap, subst}
-use Rattle.std.proofs.{Common.{inl, inr}, lemmas.{Result.err_from_is_err_and, Bool.cases_eq}}
-use Rattle.ffs_report.{proofs.Sinks.took_nil}
-use Rattle.ffs_finding.{specs.Copies.{IsWindowOf}, proofs.Printing.{part, part_fault}}
-use Rattle.ffs_finding.proofs.{CopyLaws.{count_is, lines_begin, lines_next, lines_end, magics}, CopySteps.fails_before}
-use Rattle.ffs_finding.proofs.CopyLaws.{reads_next, reads_all}
+use Rattle.std.proofs.{Common.{◌≡◌, ◌+◌, ◌-◌, ℕ, arith, ap, subst, inl, inr}, lemmas.Result.err_from_is_err_and}
+use Rattle.std.proofs.lemmas.Bool.{cases_eq}
+use Rattle.ffs_report.proofs.Sinks.{took_nil}
+use Rattle.ffs_finding.{specs.Copies.IsWindowOf, proofs.{Printing.{part, part_fault}, CopyLaws.{count_is, lines_begin}}}
+use Rattle.ffs_finding.proofs.{CopyLaws.{lines_next, lines_end, magics, reads_next, reads_all}, CopySteps.fails_before}
 use Rattle.ffs_finding.proofs.copies.find_copies.Goals as goal
 
 pub loop-sector-init : goal.loop-sector-init

@@ -1,6 +1,5 @@
 use Rattle.std.proofs.Common.{◌≡◌, ◌+◌, ◌-◌, ◌*◌, ◌/◌, ◌<◌, ◌≤◌, vec_len}
-use Rattle.ffs_image.specs.Device.{ForContents}
-use Rattle.ffs_image.specs.Known.{IsContents}
+use Rattle.ffs_image.specs.{Device.ForContents, Known.IsContents}
 use Rattle.ffs_walk.specs.Windows.{WindowHolds}
 use Rattle.ffs_volume.specs.Find.Copies.{copies_lines}
 use Rattle.ffs_finding.specs.{Outcome.PrintedOf, Copies.{IsWindowOf, copies_from, window_bytes}}

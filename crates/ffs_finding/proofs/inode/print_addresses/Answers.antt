@@ -1,5 +1,4 @@
-use Rattle.std.proofs.{Common.{arith, ◌≡◌, ◌<◌, ℕ, List}}
-use Rattle.std.specs.List.{flat_map, range_with_len}
+use Rattle.std.{proofs.Common.{arith, ◌≡◌, ◌<◌, ℕ, List}, specs.List.{flat_map, range_with_len}}
 use Rattle.ffs_volume.specs.{declared.Layout.Layout, Find.InodeText.{address_text, fifteen_text}}
 use Rattle.ffs_report.{specs.Sink.{Sink, Took, BrokeOff}, proofs.Sinks.took_nil}
 use Rattle.ffs_finding.proofs.Ranges.{took_next, broke_off_in}

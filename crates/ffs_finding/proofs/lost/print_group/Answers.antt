@@ -1,5 +1,4 @@
-use Rattle.std.proofs.Common.{arith}
-use Rattle.std.proofs.Common.{sym}
+use Rattle.std.proofs.Common.{arith, sym}
 use Rattle.ffs_report.proofs.Sinks.{took_nil}
 use Rattle.ffs_finding.proofs.LostGroups.{right_map, with_map}
 use Rattle.ffs_finding.proofs.lost.print_group.Goals as goal

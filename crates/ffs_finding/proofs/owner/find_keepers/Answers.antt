@@ -1,8 +1,7 @@
 use Rattle.std.proofs.Common.{◌≡◌, false, arith}
 use Rattle.ffs_volume.proofs.RunBounds.{runs_bounded}
 use Rattle.ffs_image.specs.Known.{ForBytes}
-use Rattle.ffs_finding.specs.Claims.{WithBlocks}
-use Rattle.ffs_finding.proofs.{owner.find_keepers.Goals.After-is_spent}
+use Rattle.ffs_finding.{specs.Claims.WithBlocks, proofs.owner.find_keepers.Goals.After-is_spent}
 use Rattle.ffs_finding.proofs.owner.find_keepers.Given as given
 use Rattle.ffs_finding.proofs.owner.find_keepers.Goals as goal
 

@@ -2,8 +2,7 @@ use Rattle.std.proofs.Common.{◌≡◌, ◌+◌, ◌-◌, ◌<◌, ◌≤◌}
 use Rattle.ffs_volume.specs.{Blocks.{KeptSteps.claims_before, Inodes.inodes_of}, Find.Owner.keeper_lines}
 use Rattle.ffs_image.specs.Known.{ForBytes}
 use Rattle.ffs_workspace.specs.Ready.{LeavesAllButWindows}
-use Rattle.ffs_finding.specs.Claims.{WithBlocks}
-use Rattle.ffs_finding.{specs.Outcome.PrintedOf, proofs.Owners.keepers_from}
+use Rattle.ffs_finding.{specs.{Claims.WithBlocks, Outcome.PrintedOf}, proofs.Owners.keepers_from}
 use Rattle.ffs_finding.proofs.owner.find_keepers_unlimited.Given as goal
 
 abbrev pub invariant-loop-number : goal.invariant-loop-number

@@ -1,15 +1,14 @@
-use Rattle.std.proofs.Common.{◌≡◌, ◌∙◌, ℕ, ◌<◌, ◌≤◌, Bool, true, false, List, [], ◌∷◌, nat_lt, arith, refl, sym, ap, rules}
-use Rattle.std.proofs.lemmas.Bool.Decides.{nat_tests}
-use Rattle.ffs_image.specs.Device.{Device}
+use Rattle.std.proofs.Common.{◌≡◌, ◌∙◌, ℕ, ◌<◌, ◌≤◌, Bool, true, false, List, [], ◌∷◌, nat_lt, arith, refl, sym, ap}
+use Rattle.std.proofs.{Common.rules, lemmas.Bool.Decides.nat_tests}
+use Rattle.ffs_image.specs.{Device.Device, Known.ForBytes}
 use Rattle.ffs_volume.specs.{Blocks.Claims.is_set, Disk.Areas.is_reserved, Laws.Geometry.IsAcceptedLayout}
 use Rattle.ffs_volume.specs.{declared.Layout.Layout, Find.Owner.{keeper_lines, or_lines, lines_of_fragment}}
 use Rattle.ffs_volume.{specs.Find.Owner.reserved_text, proofs.Results.fails_with}
 use Rattle.ffs_maps.specs.Bits.{bits_of}
-use Rattle.ffs_image.specs.Known.{ForBytes}
 use Rattle.ffs_workspace.specs.declared.workspace.Workspace.{Workspace}
-use Rattle.ffs_finding.{specs.{Claims.{HoldsBlocks, WithBlocks}, Keepers.map_lines}, proofs.{Claimed.{claimed_is, has_line}, Keepers.same_lines}}
-use Rattle.ffs_finding.proofs.Leaving.{block_read, size_after}
-use Rattle.ffs_finding.proofs.Printing.{knowing, one, one_broken, prints_all, prints_none, stops_all}
+use Rattle.ffs_finding.{specs.{Claims.{HoldsBlocks, WithBlocks}, Keepers.map_lines}, proofs.Claimed.claimed_is}
+use Rattle.ffs_finding.proofs.{Claimed.has_line, Keepers.same_lines, Leaving.{block_read, size_after}, Printing.knowing}
+use Rattle.ffs_finding.proofs.Printing.{one, one_broken, prints_all, prints_none, stops_all}
 use Rattle.ffs_finding.proofs.owner.find_owner.Goals as goal
 
 no_fragment : (v : Layout) (b : List ℕ) (f : ℕ) → v.size ≤ f → lines_of_fragment v b f ≡ []

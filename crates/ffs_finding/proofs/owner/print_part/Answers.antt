@@ -1,5 +1,4 @@
-use Rattle.std.proofs.Common.{◌≡◌, ◌+◌, ◌<◌, ◌≤◌, ℕ, true, nat_lt, codes, arith, refl}
-use Rattle.std.proofs.lemmas.Bool.Decides.{nat_tests}
+use Rattle.std.proofs.{Common.{◌≡◌, ◌+◌, ◌<◌, ◌≤◌, ℕ, true, nat_lt, codes, arith, refl}, lemmas.Bool.Decides.nat_tests}
 use Rattle.ffs_volume.specs.{declared.Layout.Layout, Disk.Areas.cgstart, Messages.Texts.number_text}
 use Rattle.ffs_volume.specs.Find.Owner.{part_text}
 use Rattle.ffs_finding.proofs.owner.print_part.Goals as goal

@@ -1,5 +1,4 @@
-use Rattle.std.proofs.Common.{arith}
-use Rattle.std.proofs.Common.{◌≡◌, ◌∙◌, ap, refl, List, [], ℕ, Option, option_map, map, codes}
+use Rattle.std.proofs.Common.{arith, ◌≡◌, ◌∙◌, ap, refl, List, [], ℕ, Option, option_map, map, codes}
 use Rattle.std.specs.{Prelude.unwrap_or, Borrow.Bor, Str.Parse.{ParsesUnsigned, ExplainsUnsignedError}}
 use Rattle.std.specs.Str.Parse.{HasUnsignedDigitsIfOk}
 use Rattle.clap.specs.Words.{Row, Text, first_of, first_value, found_of, matches_of, one_of, one_text, rows_of}

@@ -1,9 +1,8 @@
 use Rattle.std.proofs.Common.{◌≡◌, ◌<◌, ◌≤◌, ◌∙◌, arith, length, rules, slice_index, sym, true}
-use Rattle.ffs_volume.specs.Encodings.Lists.{bool_at}
 use Rattle.std.proofs.lemmas.Grind.{common_steps, get_or_default_zero}
-use Rattle.ffs_names.proofs.PlacesNoted.{only_more}
+use Rattle.ffs_volume.specs.Encodings.Lists.{bool_at}
+use Rattle.ffs_names.proofs.{PlacesNoted.only_more, places.flag_parents.Goals.{then-index+then-contains, else-index}}
 use Rattle.ffs_names.proofs.places.flag_parents.Goals as goal
-use Rattle.ffs_names.proofs.places.flag_parents.Goals.{then-index+then-contains, else-index}
 
 pub loop-number-preserved : goal.loop-number-preserved
 loop-number-preserved c =

@@ -1,8 +1,6 @@
-use Rattle.std.proofs.{Common.{◌∙◌, ap, arith}, lemmas.Grind.common_steps}
-use Rattle.std.proofs.lemmas.Grind.{get_or_default_zero}
-use Rattle.ffs_volume.{proofs.Results.on_ok}
-use Rattle.ffs_names.proofs.Continuing.{contents_kept}
-use Rattle.ffs_names.proofs.places.note_directory.Goals.{After-chunks_of}
+use Rattle.std.proofs.{Common.{◌∙◌, ap, arith}, lemmas.Grind.{common_steps, get_or_default_zero}}
+use Rattle.ffs_volume.proofs.Results.{on_ok}
+use Rattle.ffs_names.proofs.{Continuing.contents_kept, places.note_directory.Goals.After-chunks_of}
 use Rattle.ffs_names.proofs.places.note_directory.Goals as goal
 
 pub returns-clause-notes : goal.returns-clause-notes

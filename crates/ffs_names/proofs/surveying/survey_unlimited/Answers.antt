@@ -1,12 +1,11 @@
-use Rattle.ffs_workspace.proofs.Leaving.{counts_surveyed}
+use Rattle.ffs_workspace.proofs.{Leaving.{counts_surveyed, counts_begin}, PlaceLaws.{filled_noted, zero_index}}
+use Rattle.ffs_workspace.specs.{Holds.HoldsBlockCheck, Tables.IsTableOf}
 use Rattle.std.proofs.Common.{◌∙◌, ◌≡◌, ◌*◌, ℕ, List, Some, length, ap, subst, sym, rules, arith, slice_index}
-use Rattle.ffs_volume.{proofs.Sizes.some_inodes, specs.{Encodings.Kinds.kind_at}}
-use Rattle.ffs_workspace.proofs.{Leaving.counts_begin, PlaceLaws.{filled_noted, zero_index}}
-use Rattle.ffs_workspace.specs.Holds.{HoldsBlockCheck}
-use Rattle.ffs_workspace.specs.Tables.{IsTableOf}
-use Rattle.ffs_names.{specs.Readers.{Base, KnowsReader}, proofs.SurveyHolds.{volume_survey, holds_tree}}
-use Rattle.ffs_names.proofs.SurveyHolds.{volume_calm, holds_calm, holds_references, on_ok_is, on_err_is}
-use Rattle.ffs_names.proofs.{surveying.survey_unlimited.Goals.After-survey_directories-surveyed, CalmDirLaws.flags_each_calm}
+use Rattle.ffs_volume.{proofs.Sizes.some_inodes, specs.Encodings.Kinds.kind_at}
+use Rattle.ffs_names.{specs.Readers.{Base, KnowsReader}, proofs.SurveyHolds.{volume_survey, holds_tree, volume_calm}}
+use Rattle.ffs_names.proofs.SurveyHolds.{holds_calm, holds_references, on_ok_is, on_err_is}
+use Rattle.ffs_names.proofs.surveying.survey_unlimited.Goals.{After-survey_directories-surveyed}
+use Rattle.ffs_names.proofs.CalmDirLaws.{flags_each_calm}
 use Rattle.ffs_names.proofs.surveying.survey_unlimited.Given as given
 use Rattle.ffs_names.proofs.surveying.survey_unlimited.Goals as goal
 

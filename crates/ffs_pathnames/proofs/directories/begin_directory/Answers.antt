@@ -1,16 +1,15 @@
 use Rattle.std.proofs.Common.{◌∙◌, ap, map, arith, length, ◌≡◌, ◌≤◌, ◌+◌, ◌*◌, ℕ, List, option_map}
 use Rattle.ffs_volume.specs.{Messages.Kinds.of_tree, Blocks.Inodes.inode_of, Directories.Volumes.volume_of}
 use Rattle.ffs_volume.specs.Directories.{Naming.graph_of, PathnameCheck.{attributes, attributes_of, dir_header_lines}}
-use Rattle.ffs_volume.{specs.Directories.PathnameCheck.header_defects, proofs.Results.fails_with}
-use Rattle.ffs_volume.specs.{Directories.{PathnameCheck.header_lines, Paths.dir_path}, Report.Reads.line_reads}
-use Rattle.ffs_volume.specs.{Costs.DirectoryReads.directory_cost, Encodings.Places.AreNoted}
+use Rattle.ffs_volume.{specs.Directories.PathnameCheck.{header_defects, header_lines}, proofs.Results.fails_with}
+use Rattle.ffs_volume.specs.{Directories.Paths.dir_path, Report.Reads.line_reads, Costs.DirectoryReads.directory_cost}
+use Rattle.ffs_volume.specs.Encodings.Places.{AreNoted}
 use Rattle.ffs_report.proofs.{Reporting.{of_begins, of_reads}, Paying.{paid_answer, paid_failed, paid_beside}}
 use Rattle.ffs_report.proofs.Paying.{paid_fault, paid_none, paid_then}
-use Rattle.ffs_pathnames.specs.{ReadsLeft.KnowsForLook, declared.look.FirstLook.FirstLook}
-use Rattle.ffs_pathnames.{specs.KnowsNoted.KnowsNoted, proofs.{Passing.knows_on, Begun.said_same}}
-use Rattle.ffs_pathnames.proofs.{Begun.{fault_same, image_same, starts_are, begun_is}, StampLaws.windows_keep}
-use Rattle.ffs_pathnames.proofs.{StampLaws.{keep_more, noted_kept}, directories.begin_directory.Given.Over}
-use Rattle.ffs_pathnames.proofs.directories.begin_directory.Goals.{After-report_header}
+use Rattle.ffs_pathnames.specs.{ReadsLeft.KnowsForLook, declared.look.FirstLook.FirstLook, KnowsNoted.KnowsNoted}
+use Rattle.ffs_pathnames.proofs.{Passing.knows_on, Begun.{said_same, fault_same, image_same, starts_are, begun_is}}
+use Rattle.ffs_pathnames.proofs.StampLaws.{windows_keep, keep_more, noted_kept}
+use Rattle.ffs_pathnames.proofs.directories.begin_directory.{Given.Over, Goals.After-report_header}
 use Rattle.ffs_workspace.proofs.Leaving.{leaves_more, survey_left, windows_leave}
 use Rattle.ffs_paths.proofs.Keeping.{kept_parent_on}
 use Rattle.ffs_layout.specs.Entry.{entry_value}

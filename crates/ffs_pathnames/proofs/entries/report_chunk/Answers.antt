@@ -3,10 +3,9 @@ use Rattle.ffs_volume.{specs.{Directories.Volumes.volume_of, Messages.Kinds.of_t
 use Rattle.ffs_layout.specs.Entry.{entry_value}
 use Rattle.ffs_report.proofs.Reporting.{of_begins, of_same, of_part, of_fault, said_knows, reports_knowing}
 use Rattle.ffs_report.proofs.Paying.{paid_none, paid_then}
-use Rattle.ffs_pathnames.specs.PassedNames.{after_entries, entries_reported}
-use Rattle.ffs_pathnames.specs.Sees.{passed_of}
-use Rattle.ffs_pathnames.{specs.KnowsNoted.{KnowsNoted, KnowsPath}, proofs.ReadyLaws.leaves_after}
-use Rattle.ffs_pathnames.proofs.{StampLaws.{keep_more, noted_kept}, Passing.{knows_on, entry_reported, entry_passed}}
+use Rattle.ffs_pathnames.specs.{PassedNames.{after_entries, entries_reported}, Sees.passed_of, KnowsNoted.KnowsNoted}
+use Rattle.ffs_pathnames.{specs.KnowsNoted.KnowsPath, proofs.{ReadyLaws.leaves_after, StampLaws.keep_more}}
+use Rattle.ffs_pathnames.proofs.{StampLaws.noted_kept, Passing.{knows_on, entry_reported, entry_passed}}
 use Rattle.ffs_pathnames.proofs.LineCounts.{entry_counted, has_begun, read_all, read_more}
 use Rattle.ffs_pathnames.proofs.entries.report_chunk.{Given.Over, Goals.After-role_of}
 use Rattle.ffs_workspace.proofs.Leaving.{leaves_all, leaves_more}

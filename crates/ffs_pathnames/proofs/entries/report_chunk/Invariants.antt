@@ -5,10 +5,9 @@ use Rattle.ffs_report.specs.{Paid.Paid, PhaseOutcome.SaidOf, Progress.progress}
 use Rattle.ffs_image.specs.Known.{ForBytes}
 use Rattle.ffs_workspace.specs.Leaves.{LeavesSurvey}
 use Rattle.ffs_names.specs.EntriesToCome.{roled_to_come}
-use Rattle.ffs_pathnames.specs.{Ready.CanMakePaths, Stamps.KeepParts, PassedNames.after_entries}
-use Rattle.ffs_pathnames.specs.Sees.{passed_of}
-use Rattle.ffs_pathnames.specs.{PassedNames.entries_reported, LineReads.{again_reads, path_owed}}
-use Rattle.ffs_pathnames.{proofs.LineCounts.HasRead, specs.KnowsNoted.{BeginsPathOf, KnowsNoted, KnowsPath}}
+use Rattle.ffs_pathnames.specs.{Ready.CanMakePaths, Stamps.KeepParts, PassedNames.{after_entries, entries_reported}}
+use Rattle.ffs_pathnames.{specs.{Sees.passed_of, LineReads.{again_reads, path_owed}}, proofs.LineCounts.HasRead}
+use Rattle.ffs_pathnames.specs.KnowsNoted.{BeginsPathOf, KnowsNoted, KnowsPath}
 use Rattle.ffs_pathnames.proofs.entries.report_chunk.Given as goal
 
 abbrev pub invariant-entries : goal.invariant-entries

@@ -3,18 +3,16 @@ use Rattle.std.{proofs.lemmas.Bool.both_ways, specs.List.flat_map}
 use Rattle.ffs_image.specs.Device.{Faulted}
 use Rattle.ffs_volume.{proofs.Numbered.as_many, specs.Directories.{Entries.{Chunk, chunk_of}, Roles.roled_chunk}}
 use Rattle.ffs_volume.{specs.{Directories.Volumes.volume_of, Messages.Kinds.of_tree}, proofs.Results.fails_with}
+use Rattle.ffs_volume.specs.Costs.DirectoryReads.{directory_runs}
 use Rattle.ffs_workspace.specs.{Leaves.LeavesSurvey, declared.workspace.Workspace.Workspace}
 use Rattle.ffs_workspace.proofs.Leaving.{leaves_all, leaves_more, windows_leave}
 use Rattle.ffs_names.{specs.{Readings.rest, Costs.{to_read, HoldsReading}}, proofs.DirCosts.runs_are}
-use Rattle.ffs_volume.specs.Costs.DirectoryReads.{directory_runs}
 use Rattle.ffs_report.proofs.Reporting.{of_begins, of_reads, of_same, of_part, of_fault, said_knows, reports_knowing}
 use Rattle.ffs_report.proofs.Paying.{paid_beside, paid_failed, paid_none, paid_then, paid_within}
-use Rattle.ffs_pathnames.specs.{KnowsNoted.KnowsNoted, PassedNames.after_entries}
-use Rattle.ffs_pathnames.specs.Sees.{passed_of}
-use Rattle.ffs_pathnames.{specs.PassedNames.entries_reported, proofs.StampLaws.{keep_more, noted_kept}}
-use Rattle.ffs_pathnames.proofs.{Passing.{chunk_reported, chunk_passed, knows_on, all_read}}
-use Rattle.ffs_pathnames.{proofs.ReadyLaws.{can_read_in, leaves_after, windows_next, windows_read}, specs.ReadsLeft.KnowsForRuns}
-use Rattle.ffs_pathnames.proofs.{LineCounts.lines_long, SeesLaws.cut_here}
+use Rattle.ffs_pathnames.specs.{KnowsNoted.KnowsNoted, PassedNames.{after_entries, entries_reported}, Sees.passed_of}
+use Rattle.ffs_pathnames.proofs.{StampLaws.{keep_more, noted_kept}, Passing.{chunk_reported, chunk_passed, knows_on}}
+use Rattle.ffs_pathnames.proofs.{Passing.all_read, ReadyLaws.{can_read_in, leaves_after, windows_next, windows_read}}
+use Rattle.ffs_pathnames.{specs.ReadsLeft.KnowsForRuns, proofs.{LineCounts.lines_long, SeesLaws.cut_here}}
 use Rattle.ffs_pathnames.proofs.entries.report_entries.{Given.Over, Goals.After-next_chunk}
 use Rattle.ffs_pathnames.proofs.entries.report_entries.Goals as goal
 

@@ -1,9 +1,8 @@
 use Rattle.std.{proofs.Common.{◌≡◌, ℕ, List, map, ◌+◌, ◌*◌, ◌≤◌, length, Ok}, specs.List.flat_map}
-use Rattle.ffs_volume.specs.{Messages.Kinds.of_tree, Report.Reads.{line_reads, path_reads}}
-use Rattle.ffs_volume.specs.Directories.{Naming.graph_of, Roles.{roled_chunk, roled_entries}, Volumes.volume_of}
+use Rattle.ffs_volume.specs.{Messages.Kinds.of_tree, Report.Reads.{line_reads, path_reads}, Directories.Naming.graph_of}
+use Rattle.ffs_volume.specs.Directories.{Roles.{roled_chunk, roled_entries}, Volumes.volume_of}
 use Rattle.ffs_volume.specs.{Costs.DirectoryReads.directory_runs, Encodings.Places.AreNoted}
-use Rattle.ffs_pathnames.specs.{LineReads.{again_reads, path_owed}, Ready.CanMakePaths}
-use Rattle.ffs_pathnames.specs.Sees.{passed_of}
+use Rattle.ffs_pathnames.specs.{LineReads.{again_reads, path_owed}, Ready.CanMakePaths, Sees.passed_of}
 use Rattle.ffs_pathnames.specs.{Stamps.KeepParts, KnowsNoted.BeginsPathOf, ReadsLeft.KnowsForRuns}
 use Rattle.ffs_pathnames.specs.PassedNames.{after_entries, entries_reported}
 use Rattle.ffs_report.specs.{Paid.Paid, PhaseOutcome.SaidOf, Progress.progress}

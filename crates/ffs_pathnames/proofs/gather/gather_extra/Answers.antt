@@ -1,8 +1,7 @@
 use Rattle.std.proofs.{Common.{ap, ◌∙◌, arith}, lemmas.Result.IfOk-weaker}
 use Rattle.ffs_volume.{specs.Directories.{Naming.graph_of, Volumes.volume_of}, proofs.Results.fails_with}
 use Rattle.ffs_paths.proofs.Sparing.{on_all}
-use Rattle.ffs_pathnames.proofs.ReadyLaws.{gather_failed, leaves_read}
-use Rattle.ffs_pathnames.proofs.PathOnce.{begin_alone, begin_once}
+use Rattle.ffs_pathnames.proofs.{ReadyLaws.{gather_failed, leaves_read}, PathOnce.{begin_alone, begin_once}}
 use Rattle.ffs_pathnames.proofs.gather.gather_extra.Goals as goal
 
 pub returns-in_err-make_path_once : goal.returns-in_err-make_path_once

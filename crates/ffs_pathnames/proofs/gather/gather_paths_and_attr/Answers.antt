@@ -1,6 +1,5 @@
-use Rattle.std.proofs.Common.{ap, arith, ◌∙◌}
+use Rattle.std.proofs.{Common.{ap, arith, ◌∙◌}, lemmas.Result.IfOk-weaker}
 use Rattle.ffs_volume.specs.Report.Reads.{path_reads}
-use Rattle.std.proofs.lemmas.Result.{IfOk-weaker}
 use Rattle.ffs_pathnames.{specs.Gathers.if_wanted, proofs.ReadyLaws.leaves_read}
 use Rattle.ffs_pathnames.proofs.gather.gather_paths_and_attr.Goals as goal
 

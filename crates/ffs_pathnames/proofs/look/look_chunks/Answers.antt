@@ -5,12 +5,11 @@ use Rattle.ffs_volume.specs.{Blocks.Inodes.inode_of, Directories.{Entries.{Chunk
 use Rattle.ffs_volume.{specs.Directories.{PathnameCheck.are_sound, Volumes.volume_of}, proofs.Results.fails_with}
 use Rattle.ffs_workspace.specs.Holds.{HoldsBlockCheck, HoldsSurvey}
 use Rattle.ffs_names.{specs.Readings.{rest, gap_left}, proofs.{DirCosts.runs_are, DirLaws.{dir_is, dir_size}}}
-use Rattle.ffs_pathnames.specs.{PassedNames.{are_quiet, after_looks}, Stamps.stamps_of}
-use Rattle.ffs_pathnames.specs.Sees.{passed_of}
+use Rattle.ffs_pathnames.specs.{PassedNames.{are_quiet, after_looks}, Stamps.stamps_of, Sees.passed_of}
 use Rattle.ffs_pathnames.{specs.StartChunks.start_chunk, proofs.StampLaws.{words_leave, words_more}}
 use Rattle.ffs_pathnames.proofs.SeesLaws.{chunks_are, chunks_read, cut_here, gap_is, seen_are, sees}
-use Rattle.ffs_pathnames.proofs.ReadyLaws.{can_read_in, can_read_more, others_stay, ready_looked}
-use Rattle.ffs_pathnames.proofs.Looking.{chunk_quiet, chunk_stamps, chunk_sound, all_quiet, all_stamps, all_sound}
+use Rattle.ffs_pathnames.proofs.{ReadyLaws.{can_read_in, can_read_more, others_stay, ready_looked}, Looking.chunk_quiet}
+use Rattle.ffs_pathnames.proofs.Looking.{chunk_stamps, chunk_sound, all_quiet, all_stamps, all_sound}
 use Rattle.ffs_pathnames.proofs.look.look_chunks.Goals as goal
 
 pub chunks-init : goal.chunks-init

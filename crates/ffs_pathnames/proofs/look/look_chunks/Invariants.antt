@@ -4,8 +4,7 @@ use Rattle.ffs_volume.specs.Directories.{Roles.roled_chunk, PathnameCheck.are_so
 use Rattle.ffs_volume.specs.{Blocks.Steps.steps_of, Encodings.Replay.{fresh_replay, replayed_steps}}
 use Rattle.ffs_volume.specs.Encodings.ReplayCounts.{replayed_runs}
 use Rattle.ffs_names.specs.{Windows.CanReadChunks, Readings.{rest, gap_left}, Costs.{to_read, HoldsReading}}
-use Rattle.ffs_pathnames.specs.{PassedNames.{are_quiet, after_looks}, Stamps.{KeepsWords, stamps_of}}
-use Rattle.ffs_pathnames.specs.Sees.{passed_of}
+use Rattle.ffs_pathnames.specs.{PassedNames.{are_quiet, after_looks}, Stamps.{KeepsWords, stamps_of}, Sees.passed_of}
 use Rattle.ffs_pathnames.{specs.StartChunks.start_chunk, proofs.SeesLaws.chunks_read}
 use Rattle.ffs_workspace.specs.Holds.{HoldsBlockCheck, HoldsSurvey}
 use Rattle.ffs_pathnames.proofs.look.look_chunks.Given as goal

@@ -1,14 +1,12 @@
-use Rattle.std.proofs.Common.{◌≡◌, ◌≤◌, ◌++◌, ◌+◌, ◌*◌, Bool, slice_index, [], List, ℕ, map, refl, ap, sym, ◌∙◌, append-nil}
-use Rattle.std.proofs.Common.{true, false, arith, length, Result, Err, inl, inr, ◌∷◌, ◌==◌}
+use Rattle.std.proofs.Common.{◌≡◌, ◌≤◌, ◌++◌, ◌+◌, ◌*◌, Bool, slice_index, [], List, ℕ, map, refl, ap, sym, ◌∙◌}
+use Rattle.std.proofs.Common.{append-nil, true, false, arith, length, Result, Err, inl, inr, ◌∷◌, ◌==◌}
 use Rattle.std.proofs.lemmas.Bool.{both_ways, cases_Bool}
-use Rattle.ffs_workspace.specs.Moments.{WorkMoment}
-use Rattle.ffs_workspace.specs.{Holds.HoldsBlockCheck, Ready.CanRead, declared.workspace.Workspace.Workspace}
-use Rattle.ffs_pathnames.proofs.Findings.{findings_kept}
-use Rattle.ffs_pathnames.{specs.Before.KnowsBefore, proofs.{LineCounts.lines_long, Carrying.goes_is}}
-use Rattle.ffs_pathnames.specs.RootAnswers.{root_reported}
-use Rattle.ffs_pathnames.proofs.Carrying.{root_kind_is, root_marked_is, tree_is, tree_lines}
-use Rattle.ffs_pathnames.proofs.pass2.check_tree.{Given.Over, Goals.After-report_root}
-use Rattle.ffs_pathnames.specs.{DirectoryLines.ReportsTree, RootAnswers.AnswersRoot}
+use Rattle.ffs_workspace.specs.{Moments.WorkMoment, Holds.HoldsBlockCheck, Ready.CanRead}
+use Rattle.ffs_workspace.specs.declared.workspace.Workspace.{Workspace}
+use Rattle.ffs_pathnames.{proofs.{Findings.findings_kept, LineCounts.lines_long}, specs.Before.KnowsBefore}
+use Rattle.ffs_pathnames.proofs.Carrying.{goes_is, root_kind_is, root_marked_is, tree_is, tree_lines}
+use Rattle.ffs_pathnames.{specs.RootAnswers.{root_reported, AnswersRoot}, proofs.pass2.check_tree.Given.Over}
+use Rattle.ffs_pathnames.{proofs.pass2.check_tree.Goals.After-report_root, specs.DirectoryLines.ReportsTree}
 use Rattle.ffs_pathnames.{proofs.Begun.image_same, specs.declared.pass2.Root.Root}
 use Rattle.ffs_volume.specs.{Encodings.Kinds.is_dir_kind, Directories.{Roles.Volume, Volumes.volume_of}}
 use Rattle.ffs_volume.specs.Messages.Kinds.{of_tree, TreeMessage, Message, of_directory, stops_check}
@@ -16,11 +14,10 @@ use Rattle.ffs_volume.specs.{Directories.PathnameCheck.{continues_after_root, pa
 use Rattle.ffs_volume.specs.declared.{Layout.Layout, tree_lines.DirectoryLine.TheVariants.{RootNone, RootNotDir}}
 use Rattle.ffs_volume.proofs.Results.{fails_with}
 use Rattle.ffs_report.proofs.{Reporting.{of_begins, of_says, of_stops, of_part, of_fault}, Paying.paid_said}
-use Rattle.ffs_report.proofs.Paying.{paid_answer, paid_fault, paid_text, paid_then}
-use Rattle.ffs_image.specs.Known.{ForBytes}
-use Rattle.ffs_report.specs.{PhaseOutcome.{ImageAfter, PhaseReports}, Progress.Progress}
-use Rattle.ffs_report.specs.declared.fault.RunFault.{RunFault, TheVariants.{Read, Out}}
-use Rattle.ffs_image.specs.Device.{Device}
+use Rattle.ffs_report.{proofs.Paying.{paid_answer, paid_fault, paid_text, paid_then}, specs.PhaseOutcome.ImageAfter}
+use Rattle.ffs_report.specs.{PhaseOutcome.PhaseReports, Progress.Progress, declared.fault.RunFault.RunFault}
+use Rattle.ffs_report.specs.declared.fault.RunFault.TheVariants.{Read, Out}
+use Rattle.ffs_image.specs.{Known.ForBytes, Device.Device}
 use Rattle.ffs_pathnames.proofs.pass2.check_tree.Goals as goal
 
 -- what the kind of the root that was read says

@@ -1,6 +1,5 @@
 use Rattle.std.proofs.{Common.{◌≡◌, ◌∙◌, ap, rules, slice_index}, lemmas.List.with_items_is}
-use Rattle.ffs_workspace.proofs.Leaving.{leaves_more, windows_leave}
-use Rattle.ffs_workspace.specs.declared.workspace.Workspace.{Workspace}
+use Rattle.ffs_workspace.{proofs.Leaving.{leaves_more, windows_leave}, specs.declared.workspace.Workspace.Workspace}
 use Rattle.ffs_pathnames.proofs.{ReadyLaws.ready_passed, StampLaws.{none_due, none_stamped}}
 use Rattle.ffs_pathnames.proofs.pass2.clear_passed_and_windows.Goals as goal
 

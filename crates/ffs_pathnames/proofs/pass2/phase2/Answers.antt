@@ -1,24 +1,21 @@
-use Rattle.std.proofs.Common.{[], ◌∷◌, List, ℕ, refl, ap, ◌∙◌, inr, arith, ◌≡◌, ◌*◌, OnOk, Result, Ok, Err, IfOk}
-use Rattle.std.proofs.{Common.{map, sym, true, false}, lemmas.{Bool.both_ways, Result.err_from_is_err_and}}
-use Rattle.ffs_image.specs.Device.{Device}
+use Rattle.std.proofs.Common.{[], ◌∷◌, List, ℕ, refl, ap, ◌∙◌, inr, arith, ◌≡◌, ◌*◌, OnOk, Result, Ok, Err, IfOk, map}
+use Rattle.std.proofs.{Common.{sym, true, false}, lemmas.{Bool.both_ways, Result.err_from_is_err_and}}
+use Rattle.ffs_image.specs.{Device.Device, Known.ForBytes}
 use Rattle.ffs_report.proofs.Reporting.{heading_alone, heading_part, heading_reads, of_reads, of_last, reports_knowing}
-use Rattle.ffs_report.proofs.Reporting.{says_heading, stops_heading}
-use Rattle.ffs_report.{proofs.Paying.{paid_said, paid_text, paid_then}, specs.Progress.Progress}
-use Rattle.ffs_image.specs.Known.{ForBytes}
-use Rattle.ffs_report.specs.{Progress.Said, declared.fault.RunFault.{RunFault, TheVariants.{Read, Out}}}
+use Rattle.ffs_report.proofs.{Reporting.{says_heading, stops_heading}, Paying.{paid_said, paid_text, paid_then}}
+use Rattle.ffs_report.specs.{Progress.{Progress, Said}, declared.fault.RunFault.{RunFault, TheVariants.{Read, Out}}}
 use Rattle.ffs_report.proofs.Reports.{said_then}
 use Rattle.ffs_volume.specs.{Messages.Kinds.{phase2, Message, of_tree}, declared.Layout.Layout}
 use Rattle.ffs_volume.{proofs.RunBounds.runs_bounded, specs.Directories.PathnameCheck.pathname_lines}
-use Rattle.ffs_volume.{specs.Directories.Volumes.volume_of, proofs.Results.fails_with}
-use Rattle.ffs_pathnames.specs.{declared.pass2.Root.{Root, TheVariants.{Go, Stop}}, Before.KnowsBefore, Phase2.Phase2Ends, RootAnswers.AnswersRoot}
-use Rattle.ffs_pathnames.{specs.RootAnswers.{SaidStop, is_go}, proofs.Carrying.{before_first, goes_is, references_on}}
-use Rattle.ffs_pathnames.proofs.{SilentLaws.calm_silent, pass2.phase2.{Given.Over, Goals.After-check_tree}}
-use Rattle.ffs_pathnames.proofs.ChecksNeededLaws.{looked_at_first}
+use Rattle.ffs_volume.{specs.Directories.Volumes.volume_of, proofs.Results.{fails_with, at_error}}
+use Rattle.ffs_pathnames.specs.{declared.pass2.Root.{Root, TheVariants.{Go, Stop}}, Before.KnowsBefore}
+use Rattle.ffs_pathnames.specs.{Phase2.Phase2Ends, RootAnswers.{AnswersRoot, SaidStop, is_go}}
+use Rattle.ffs_pathnames.proofs.{Carrying.{before_first, goes_is, references_on}, SilentLaws.calm_silent}
+use Rattle.ffs_pathnames.proofs.{pass2.phase2.{Given.Over, Goals.After-check_tree}, ChecksNeededLaws.looked_at_first}
 use Rattle.ffs_names.{proofs.{DirCosts.noted_all_within, RunSums.costs_bounded}, specs.Surveys.SurveysNoMore}
 use Rattle.ffs_workspace.specs.{declared.workspace.Workspace.Workspace, Found.WithBlockCheck, Holds.HoldsBlockCheck}
 use Rattle.ffs_workspace.{specs.Holds.{HoldsFindings, HoldsReferences, HoldsSurvey}, proofs.Leaving.block_check_kept}
 use Rattle.ffs_workspace.proofs.Leaving.{block_check_more, claims_left, findings_claims}
-use Rattle.ffs_volume.proofs.Results.{at_error}
 use Rattle.ffs_pathnames.proofs.pass2.phase2.Goals as goal
 
 -- what is known before the first directory

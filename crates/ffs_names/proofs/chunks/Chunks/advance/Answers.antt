@@ -1,12 +1,11 @@
-use Rattle.ffs_names.proofs.Continuing.{counts_here}
-use Rattle.std.proofs.Common.{◌≡◌, ◌∙◌, ◌∷◌, ◌++◌, ◌<◌, ℕ, List, Some, inr, replicate, refl, ap, sym}
-use Rattle.std.proofs.{Common.arith, lemmas.{Bool.false≢true, Result.err_from_is_err_and}}
-use Rattle.ffs_volume.{specs.declared.Step.{Step, TheVariants.Gap}, proofs.Results.fails_with}
-use Rattle.ffs_walk.specs.{Keepings.replay_in, Rests.{most_steps_left, steps_left}}
+use Rattle.ffs_names.proofs.Continuing.{counts_here, can_walk, continues_more, no_more, same_here, same_more, walk_on}
 use Rattle.ffs_names.{specs.Windows.CanWalkDir, proofs.Advances.{only_walks, over_gaps, over_rest, over_runs}}
 use Rattle.ffs_names.proofs.Advances.{over_tail, runs_gaps, runs_on, runs_tail, same_walked, seen_if_over, seen_if_shut}
-use Rattle.ffs_names.proofs.{Advances.{over_left, sees_on, walks_on}, Continuing.{can_walk, continues_more}}
-use Rattle.ffs_names.proofs.{Continuing.{no_more, same_here, same_more, walk_on}, ReadCounts.whole_held}
+use Rattle.ffs_names.proofs.{Advances.{over_left, sees_on, walks_on}, ReadCounts.whole_held}
+use Rattle.std.proofs.Common.{◌≡◌, ◌∙◌, ◌∷◌, ◌++◌, ◌<◌, ℕ, List, Some, inr, replicate, refl, ap, sym, arith}
+use Rattle.std.proofs.lemmas.{Bool.false≢true, Result.err_from_is_err_and}
+use Rattle.ffs_volume.{specs.declared.Step.{Step, TheVariants.Gap}, proofs.Results.fails_with}
+use Rattle.ffs_walk.specs.{Keepings.replay_in, Rests.{most_steps_left, steps_left}}
 use Rattle.ffs_names.proofs.chunks.Chunks.advance.Goals as goal
 
 pub invariant_of-self-in-None : goal.invariant_of-self-in-None

@@ -1,5 +1,4 @@
-use Rattle.std.proofs.lemmas.Bool.Decides.{nat_tests}
-use Rattle.std.proofs.{Common.{◌∙◌, ◌+◌, ◌*◌, ap, arith}, lemmas.Grind.common_steps}
+use Rattle.std.proofs.{lemmas.{Bool.Decides.nat_tests, Grind.common_steps}, Common.{◌∙◌, ◌+◌, ◌*◌, ap, arith}}
 use Rattle.std.proofs.lemmas.Result.{err_from_is_err_and}
 use Rattle.ffs_volume.{specs.Disk.Numbers.piece, proofs.Results.fails_with}
 use Rattle.ffs_names.proofs.{Advances.run_is_given, RunChunks.cursor_step}

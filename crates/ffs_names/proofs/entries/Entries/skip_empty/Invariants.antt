@@ -1,8 +1,7 @@
 use Rattle.std.proofs.Common.{◌≡◌, ℕ, ◌+◌, ◌-◌, ◌*◌, ◌≤◌, ◌++◌, List, flat_map}
 use Rattle.ffs_volume.specs.Directories.{Entries.entries_from, Roles.{roled_chunk, roled_from}}
 use Rattle.ffs_survey.specs.Reading.{SkipsEmpty}
-use Rattle.ffs_names.specs.{Entering.to_come, Readings.rest, Shapes.fills}
-use Rattle.ffs_names.proofs.Shaped.{fills_from}
+use Rattle.ffs_names.{specs.{Entering.to_come, Readings.rest, Shapes.fills}, proofs.Shaped.fills_from}
 use Rattle.ffs_names.proofs.entries.Entries.skip_empty.Given as goal
 
 abbrev pub invariant-entries : goal.invariant-entries

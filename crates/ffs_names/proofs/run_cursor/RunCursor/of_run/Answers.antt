@@ -1,5 +1,4 @@
-use Rattle.std.proofs.Common.{mul-le-mul_right}
-use Rattle.std.proofs.{Common.{◌∙◌, arith, sym}, Math.Nat.mul-mod_left}
+use Rattle.std.proofs.{Common.{mul-le-mul_right, ◌∙◌, arith, sym}, Math.Nat.mul-mod_left}
 use Rattle.ffs_names.{specs.RunCursors.reading_by, proofs.RunChunks.{none_far, run_in_volume}}
 use Rattle.ffs_names.proofs.run_cursor.RunCursor.of_run.Goals as goal
 
