@@ -4,11 +4,10 @@ use Rattle.std.proofs.lemmas.Bool.{cases_eq, ne_eqb, and_parts, and_from, not-fa
 use Rattle.ffs_volume.specs.declared.{Class.{TheVariants.Dir, Class}, Role.TheVariants.Plain}
 use Rattle.ffs_volume.specs.Directories.Roles.{Volume, RoledEntry, is_dir, is_suspect, dotdot, roled_entries}
 use Rattle.ffs_volume.specs.Directories.{Graph.{parent, parent_entry_index, reached}, Naming.graph_of}
-use Rattle.ffs_volume.specs.Consistent.DirectoriesRight.{IsNamedOnce}
-use Rattle.ffs_volume.specs.Directories.{Naming.{is_parent_entry, nth_roled}, PathnameCheck.is_wrong_parent}
-use Rattle.ffs_volume.specs.Directories.{PathnameCheck.is_extraneous, Entries.Entry, Climb.is_value}
-use Rattle.ffs_volume.specs.{Directories.Connectivity.is_unref_dir, Blocks.Inodes.is_directory}
+use Rattle.ffs_volume.specs.{Directories.Naming.{is_parent_entry, nth_roled}, Consistent.DirectoriesRight.IsNamedOnce}
 use Rattle.ffs_volume.specs.Consistent.DirectoriesRight.{IsPlainRight, AreDirsRight, AreLinksRight, AreCountsRight}
+use Rattle.ffs_volume.specs.Directories.{PathnameCheck.{is_wrong_parent, is_extraneous}, Entries.Entry, Climb.is_value}
+use Rattle.ffs_volume.specs.{Directories.Connectivity.is_unref_dir, Blocks.Inodes.is_directory}
 use Rattle.ffs_volume.proofs.{LevelLaws.{parent-root, reached-root}, ClimbLaws.{is_value-true, is_value-from}}
 use Rattle.ffs_volume.proofs.{Graphs.{AllReached, NoExtraneous}, Booleans.{and_false-right, and_false-from}}
 use Rattle.ffs_certificate.specs.{DirsCertificate.{IsSilent, AreDirectoriesRight}, Conditions.IsPlainUnreported}

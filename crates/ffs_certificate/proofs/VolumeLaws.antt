@@ -2,18 +2,17 @@
 use Rattle.std.proofs.Common.{zero, suc, ◌≡◌, ℕ, ◌+◌, ◌-◌, ◌*◌, ◌<◌, ◌≤◌, true, false, arith, refl, sym, ap, ◌∙◌, List}
 use Rattle.std.proofs.{Common.{[], ◌∷◌, map, Bool}, lemmas.{Bool.and_parts, List.Folds.list_all-map}}
 use Rattle.std.{proofs.lemmas.List.FromFn.length-range_with_len, specs.List.range_with_len}
-use Rattle.ffs_volume.specs.declared.{Step.Step, Layout.Layout}
-use Rattle.ffs_volume.specs.Blocks.Claims.{Claims, no_claims, reserved_map, at_next_inode, after_step, after_owner}
-use Rattle.ffs_volume.specs.Blocks.{Claims.after_owners, BlockCheck.is_marked, KeptSteps.{kept_steps}}
-use Rattle.ffs_volume.specs.Blocks.{KeptSteps.{claims_before, kept_steps_of}, Inodes.{inode_of, class_of}}
+use Rattle.ffs_volume.specs.{declared.{Step.Step, Layout.Layout}, Blocks.Claims.{Claims, no_claims, reserved_map}}
+use Rattle.ffs_volume.specs.Blocks.{Claims.{at_next_inode, after_step, after_owner, after_owners}, BlockCheck.is_marked}
+use Rattle.ffs_volume.specs.Blocks.{KeptSteps.{kept_steps, claims_before, kept_steps_of}, Inodes.{inode_of, class_of}}
 use Rattle.ffs_volume.specs.{Blocks.{Owners.{owner_of, owners_of}, Steps.steps_of}, Directories.Volumes.is_inode_number}
 use Rattle.ffs_volume.specs.Directories.Volumes.{class_at, marked_at, steps_of_inode, kept_steps_of_inode, volume_with}
 use Rattle.ffs_volume.specs.Directories.{Volumes.{volume_of, whole_volume}, Roles.roled_entries}
 use Rattle.ffs_volume.specs.{Consistent.BlocksRight.{is_right_class, BlocksRight}, Laws.Geometry.IsAcceptedLayout}
 use Rattle.ffs_volume.proofs.Sizes.{no_steps}
-use Rattle.ffs_certificate.{specs.Premises.{IsVolume, IsUnmarked}, proofs.BlockLaws.{Calm, calm_open}}
-use Rattle.ffs_certificate.proofs.BlockLaws.{steps_quiet, step_claims, owner_quiet, owners_quiet, owner_claims}
-use Rattle.ffs_certificate.proofs.{BlockLaws.owners_from, BlocksSilent.{right_quiet, blocks_silent}, GroupLaws.all_at}
+use Rattle.ffs_certificate.{specs.Premises.{IsVolume, IsUnmarked}, proofs.BlockLaws.{Calm, calm_open, steps_quiet}}
+use Rattle.ffs_certificate.proofs.BlockLaws.{step_claims, owner_quiet, owners_quiet, owner_claims, owners_from}
+use Rattle.ffs_certificate.proofs.{BlocksSilent.{right_quiet, blocks_silent}, GroupLaws.all_at}
 
 steps_kept_quiet : (v : Layout) (s : Claims) (steps : List Step) → Calm s → steps_quiet v s.used steps ≡ true →
     kept_steps v s steps ≡ steps

@@ -1,14 +1,13 @@
 -- The numbers of a group block, by the bits of signed numbers.
-use Rattle.std.proofs.Common.{◌≡◌, ◌==◌, ℕ, ◌<◌, ◌^◌, List, slice_index, ◌+◌, arith, ◌*◌, Bool, map}
-use Rattle.std.{proofs.{Common.◌&&◌, lemmas.List.get_or-drop}, specs.List.range_with_len}
-use Rattle.ffs_volume.specs.{declared.{Order.Order, Layout.Layout, Class.Class}}
-use Rattle.ffs_volume.specs.{Groups.Records.{right_group_counts, group_size, has_right_sums}, Disk.Numbers.i32_at}
-use Rattle.ffs_volume.specs.Disk.Numbers.{u32_at, number, all_below}
+use Rattle.std.proofs.Common.{◌≡◌, ◌==◌, ℕ, ◌<◌, ◌^◌, List, slice_index, ◌+◌, arith, ◌*◌, Bool, map, ◌&&◌}
+use Rattle.std.{proofs.lemmas.List.get_or-drop, specs.List.range_with_len}
+use Rattle.ffs_volume.specs.{declared.{Order.Order, Layout.Layout, Class.Class}, Groups.Records.right_group_counts}
+use Rattle.ffs_volume.specs.{Groups.Records.{group_size, has_right_sums}, Disk.Numbers.{i32_at, u32_at, number}}
+use Rattle.ffs_volume.specs.Disk.Numbers.{all_below}
 use Rattle.ffs_layout.specs.Group.{group_summary_at}
-use Rattle.ffs_groups.specs.declared.{counts.{Counts.Counts}, free.FreeCounts.FreeCounts}
-use Rattle.ffs_groups.specs.{declared.inodes.InodeCounts.InodeCounts, Check.{has_bits_of, AreCounts}}
-use Rattle.ffs_groups.specs.{Check.{same_counts, same_frsum_at}, Free.AreFreeCounts, Inodes.AreInodeCounts}
-use Rattle.ffs_groups.proofs.MapWords.{same_below}
+use Rattle.ffs_groups.specs.declared.{counts.Counts.Counts, free.FreeCounts.FreeCounts, inodes.InodeCounts.InodeCounts}
+use Rattle.ffs_groups.specs.{Check.{has_bits_of, AreCounts, same_counts, same_frsum_at}, Free.AreFreeCounts}
+use Rattle.ffs_groups.{specs.Inodes.AreInodeCounts, proofs.MapWords.same_below}
 
 -- four bytes
 in_word : (order : Order) (place : ℕ) (bytes : List ℕ) → ((k : ℕ) → slice_index bytes k < 256) →

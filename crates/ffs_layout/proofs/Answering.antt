@@ -1,11 +1,10 @@
 -- The outcome, from what a read gives.
-use Rattle.std.proofs.Common.{◌≡◌, ℕ, ◌+◌, ◌*◌, ◌<◌, ◌≤◌, true, false, List, length, Option, Some, None, Ok, Err}
-use Rattle.std.{proofs.Common.{arith, sym, ◌∙◌, ap}, specs.Prelude.{take, drop}}
-use Rattle.ffs_volume.specs.declared.{Order.Order, SuperFault.{SuperFault, TheVariants.CannotRead}}
-use Rattle.ffs_volume.specs.{declared.SuperFault.TheVariants.{Magic, Disagree}, Disk.Numbers.piece}
-use Rattle.ffs_volume.specs.Disk.{Superblock.{order_of, layout_of, superblock_of}, Outcome.{super_sector, layout_fault}}
-use Rattle.ffs_volume.specs.Disk.Outcome.{copy_agrees, outcome}
-use Rattle.ffs_volume.proofs.OutcomeLaws.{outcome_past_end, outcome_magic, outcome_fault, outcome_disagree, outcome_ok}
+use Rattle.std.proofs.Common.{◌≡◌, ℕ, ◌+◌, ◌*◌, ◌<◌, ◌≤◌, true, false, List, length, Option, Some, None, Ok, Err, arith}
+use Rattle.std.{proofs.Common.{sym, ◌∙◌, ap}, specs.Prelude.{take, drop}}
+use Rattle.ffs_volume.specs.declared.{Order.Order, SuperFault.{SuperFault, TheVariants.{CannotRead, Magic, Disagree}}}
+use Rattle.ffs_volume.specs.Disk.{Numbers.piece, Superblock.{order_of, layout_of, superblock_of}, Outcome.super_sector}
+use Rattle.ffs_volume.{specs.Disk.Outcome.{layout_fault, copy_agrees, outcome}, proofs.OutcomeLaws.outcome_past_end}
+use Rattle.ffs_volume.proofs.OutcomeLaws.{outcome_magic, outcome_fault, outcome_disagree, outcome_ok}
 
 -- as many bytes as were asked for
 pub taken : (at n : ℕ) (b xs : List ℕ) → length xs ≡ n → xs ≡ take (length xs) (drop at b) → xs ≡ piece at n b

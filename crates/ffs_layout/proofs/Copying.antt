@@ -1,9 +1,7 @@
 -- Copies of a superblock that are read, and faults of them.
-use Rattle.std.proofs.Common.{◌≡◌, ℕ, List, Option, Some, None, refl, ap}
-use Rattle.std.specs.{Prelude.unwrap_or}
-use Rattle.ffs_volume.specs.declared.{Layout.Layout, Order.Order}
-use Rattle.ffs_volume.specs.{Disk.Outcome.{super_sector}}
-use Rattle.ffs_volume.specs.Disk.Superblock.{layout_of, superblock_of}
+use Rattle.std.{proofs.Common.{◌≡◌, ℕ, List, Option, Some, None, refl, ap}, specs.Prelude.unwrap_or}
+use Rattle.ffs_volume.specs.{declared.{Layout.Layout, Order.Order}, Disk.{Outcome.super_sector, Superblock.layout_of}}
+use Rattle.ffs_volume.specs.Disk.Superblock.{superblock_of}
 
 -- where no sector is asked for, the superblock is read at that of the primary one
 pub default_sector : (sector : Option ℕ) → unwrap_or sector 16 ≡ super_sector sector

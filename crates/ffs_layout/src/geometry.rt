@@ -1,10 +1,9 @@
 //! An accepted layout, and where the parts of its volume lie.
 
 ghost use Rattle.std.specs.Prelude.{MatchResult, ◌≡◌, ◌<◌, ◌≤◌, ◌*◌, ◌+◌};
-ghost use Rattle.ffs_volume.specs.Disk.Outcome.{layout_fault};
-ghost use Rattle.ffs_volume.specs.Disk.Areas.{cgsblock, cgstart, group_place, inode_place, is_run_in_range, is_group_metadata, is_fragment_in_range, is_reserved, summary_place};
-ghost use Rattle.ffs_volume.specs.Blocks.Inodes.{inodes_of};
-ghost use Rattle.ffs_volume.specs.Laws.Geometry.{IsAcceptedLayout};
+ghost use Rattle.ffs_volume.specs.Disk.{Outcome.layout_fault, Areas.{cgsblock, cgstart, group_place, inode_place}};
+ghost use Rattle.ffs_volume.specs.Disk.Areas.{is_run_in_range, is_group_metadata, is_fragment_in_range, is_reserved};
+ghost use Rattle.ffs_volume.specs.{Disk.Areas.summary_place, Blocks.Inodes.inodes_of, Laws.Geometry.IsAcceptedLayout};
 ghost use Rattle.ffs_layout.specs.Accepted.{IsAccepted, IsDataStart, IsGroupBase};
 
 use crate::groups::cgoffset_of;

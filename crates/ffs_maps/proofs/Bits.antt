@@ -6,9 +6,8 @@ use Rattle.std.proofs.lemmas.List.{length-replicate, FromFn.{length-map-range_wi
 use Rattle.std.proofs.lemmas.Nat.Bits.{bit_at_set_same, bit_at_set_other, bit_at_clear_same, bit_at_clear_other}
 use Rattle.std.{proofs.{lemmas.Nat.Bits.bit_at-zero, Math.{Nat.ℕ_set, Path.subst⁻¹}}, specs.Int.{bit_at, w64, bit_not}}
 use Rattle.std.specs.Int.{div_ceil}
-use Rattle.ffs_maps.specs.Words.{Words}
-use Rattle.ffs_maps.specs.{declared.FragmentMap.FragmentMap, Bits.{bits_of, set_run}, WordBits.bits_of_words}
-use Rattle.ffs_maps.specs.WordBits.{set_among}
+use Rattle.ffs_maps.specs.{Words.Words, declared.FragmentMap.FragmentMap, Bits.{bits_of, set_run}}
+use Rattle.ffs_maps.specs.WordBits.{bits_of_words, set_among}
 
 -- the bit of fragment f is set, in words of 64 bits
 abbrev pub is_bit : List ℕ → ℕ → Bool

@@ -1,15 +1,13 @@
 -- How many bits of a run are set.
-use Rattle.std.proofs.Common.{◌≡◌, ℕ, zero, suc, ◌+◌, ◌-◌, ◌*◌, ◌/◌, ◌%◌, ◌^◌, ◌<◌, ◌≤◌, Bool, false, List}
-use Rattle.std.proofs.Common.{cond, map, get_or, bit_and, count_ones, count_by, arith, refl, ap, ◌∙◌, sym}
-use Rattle.std.proofs.{Common.{add-zero}, lemmas.List.{get_or_past}}
-use Rattle.std.proofs.lemmas.List.{Sums.{sum_by-cons, count_by-le-length}, FromFn.length-range_with_len}
-use Rattle.std.proofs.lemmas.List.{FromFn.{length-map-range_with_len, get_or-map-range_with_len}}
-use Rattle.std.proofs.lemmas.{Simd.{bit_mask_l, ones-mask_l}, Nat.Bits.{bit_at_and, bit_at-lt, bit_at_above}}
-use Rattle.std.proofs.lemmas.Nat.Bits.{bit_at_ones, bit_at_ones_above, same_from_bits, ones_shr}
-use Rattle.std.specs.{List.{range_with_len, sum_by, slice_index_or}, Int.bit_at}
+use Rattle.std.proofs.Common.{◌≡◌, ℕ, zero, suc, ◌+◌, ◌-◌, ◌*◌, ◌/◌, ◌%◌, ◌^◌, ◌<◌, ◌≤◌, Bool, false, List, cond, map}
+use Rattle.std.proofs.Common.{get_or, bit_and, count_ones, count_by, arith, refl, ap, ◌∙◌, sym, add-zero}
+use Rattle.std.proofs.lemmas.List.{get_or_past, Sums.{sum_by-cons, count_by-le-length}, FromFn.length-range_with_len}
+use Rattle.std.proofs.lemmas.{List.FromFn.{length-map-range_with_len, get_or-map-range_with_len}, Simd.bit_mask_l}
+use Rattle.std.proofs.lemmas.{Simd.ones-mask_l, Nat.Bits.{bit_at_and, bit_at-lt, bit_at_above, bit_at_ones}}
+use Rattle.std.{proofs.lemmas.Nat.Bits.{bit_at_ones_above, same_from_bits, ones_shr}, specs.List.range_with_len}
+use Rattle.std.specs.{List.{sum_by, slice_index_or}, Int.bit_at}
 use lib.Lanes.{mask_l}
-use Rattle.ffs_maps.{specs.WordBits.{bits_of_words, set_among}, proofs.{Bits.{bit_in}, WordShifts.bit_shr}}
-use Rattle.ffs_maps.proofs.WordShifts.{one_bit}
+use Rattle.ffs_maps.{specs.WordBits.{bits_of_words, set_among}, proofs.{Bits.bit_in, WordShifts.{bit_shr, one_bit}}}
 
 -- the place of the next number
 pub one_on : (a k : ℕ) → a + 1 + k ≡ a + (k + 1)

@@ -1,13 +1,11 @@
 -- The bits of a map with the reserved fragments.
-use Rattle.std.proofs.Common.{◌≡◌, ℕ, ◌*◌, ◌<◌, ◌≤◌, Bool, false, List, length}
-use Rattle.std.proofs.Common.{◌&&◌, ◌||◌, nat_lt, count_by, get_or, replicate, arith, ap, ◌∙◌, sym}
-use Rattle.std.proofs.lemmas.{List.{same_lists, get_or_default}}
+use Rattle.std.proofs.Common.{◌≡◌, ℕ, ◌*◌, ◌<◌, ◌≤◌, Bool, false, List, length, ◌&&◌, ◌||◌, nat_lt, count_by, get_or}
+use Rattle.std.proofs.{Common.{replicate, arith, ap, ◌∙◌, sym}, lemmas.List.{same_lists, get_or_default}}
 use Rattle.std.proofs.lemmas.List.{get_or-replicate, FromFn.{get_or-map-range_with_len, length-map-range_with_len}}
 use Rattle.std.specs.{List.{range_with_len, slice_index_or}, Prelude.Some}
-use Rattle.ffs_volume.specs.{declared.Layout.Layout, Disk.Areas.{is_reserved}}
+use Rattle.ffs_volume.specs.{declared.Layout.Layout, Disk.Areas.is_reserved}
 use Rattle.ffs_layout.specs.declared.geometry.Geometry.{Geometry}
-use Rattle.ffs_maps.specs.{Reserved.{with_reserved}, WordBits.{bits_of_words, set_among}}
-use Rattle.ffs_maps.specs.Words.{reserved_words}
+use Rattle.ffs_maps.specs.{Reserved.with_reserved, WordBits.{bits_of_words, set_among}, Words.reserved_words}
 use Rattle.ffs_maps.proofs.{Bits.{bits_are, get_bits, is_bit, zero_bits}, Counting.sum_same, Words.reserved_bits_at}
 
 pub length_with : (v : Layout) (bits : List Bool) → length (with_reserved v bits) ≡ v.size

@@ -2,11 +2,10 @@
 -- the image's bytes: that the image gives them, and what the workspace holds of them. Where nothing
 -- is known, messages were said, and of which is promised only that a phase's heading is the first.
 use Rattle.std.specs.Prelude.{◌≡◌, ℕ, List, [], ◌∷◌, ◌++◌, Result, Ok, Err}
-use Rattle.ffs_image.specs.Device.{Device, Faulted}
+use Rattle.ffs_image.specs.{Device.{Device, Faulted}, Known.ForBytes}
 use Rattle.ffs_volume.specs.Messages.Kinds.{Message}
-use Rattle.ffs_report.specs.{Progress.{Progress, Said, Stopped}, declared.fault.RunFault.RunFault}
-use Rattle.ffs_image.specs.Known.{ForBytes}
-use Rattle.ffs_report.specs.declared.fault.RunFault.TheVariants.{Read, Out}
+use Rattle.ffs_report.specs.{Progress.{Progress, Said, Stopped}, declared.fault.RunFault.{RunFault, TheVariants.Read}}
+use Rattle.ffs_report.specs.declared.fault.RunFault.TheVariants.{Out}
 
 -- a read's fault is given by the image, and no other answer touches the image
 abbrev pub ImageAfter : {T : Type 0} → (old new : Device) → Result T RunFault → Type 0

@@ -1,18 +1,16 @@
 -- Directories that are called calm are calm, and stay so.
-use Rattle.std.proofs.Common.{◌≡◌, ℕ, suc, ◌+◌, ◌<◌, ◌==◌, Bool, true, false, ◌&&◌, nat_le, List, [], ◌∷◌}
-use Rattle.std.proofs.{Common.{length, Option, arith, ◌∙◌, ap, inl, get_or, inr}, lemmas.Bool.both_ways}
-use Rattle.std.{proofs.lemmas.{Bool.{eqb-true, and_parts, or_cases, or_parts}, List.get_or_past}, specs.List.list_any}
+use Rattle.std.proofs.Common.{◌≡◌, ℕ, suc, ◌+◌, ◌<◌, ◌==◌, Bool, true, false, ◌&&◌, nat_le, List, [], ◌∷◌, length}
+use Rattle.std.proofs.{Common.{Option, arith, ◌∙◌, ap, inl, get_or, inr}, lemmas.Bool.{both_ways, eqb-true, and_parts}}
+use Rattle.std.{proofs.lemmas.{Bool.{or_cases, or_parts}, List.get_or_past}, specs.List.list_any}
 use mathlib.Core.Path.{fun_ext}
 use Rattle.ffs_volume.specs.Directories.{Graph.{Graph, is_naming_entry}, Roles.{RoledEntry, is_plain}}
 use Rattle.ffs_volume.specs.declared.Role.TheVariants.{Empty, Dot, Dotdot, Extra, Plain}
-use Rattle.ffs_volume.{proofs.SearchLaws.first_below-is_none, specs.declared.Role.Role}
-use Rattle.ffs_survey.specs.Calm.{dir_by, AreCalm, IsCalm}
-use Rattle.ffs_volume.specs.Costs.Calm.{CurrentDir, is_calm_role, is_calm_entry, reached_after, are_calm}
-use Rattle.ffs_survey.specs.{Calm.IsFlagged, Discover.{from_entries, IsFrontier, LevelsKnown}}
-use Rattle.ffs_survey.{specs.Survey.{bool_at, number_at}, proofs.Frontiers.frontier_within}
-use Rattle.ffs_survey.proofs.Remaining.{nothing, SameResult}
+use Rattle.ffs_volume.{proofs.SearchLaws.first_below-is_none, specs.{declared.Role.Role, Costs.Calm.CurrentDir}}
+use Rattle.ffs_volume.specs.Costs.Calm.{is_calm_role, is_calm_entry, reached_after, are_calm}
 use Rattle.ffs_volume.specs.Encodings.Kinds.{is_dir_at}
-use Rattle.ffs_survey.specs.Discover.{Found, IsRead}
+use Rattle.ffs_survey.specs.{Calm.{dir_by, AreCalm, IsCalm, IsFlagged}, Discover.{from_entries, IsFrontier}}
+use Rattle.ffs_survey.specs.{Discover.{LevelsKnown, Found, IsRead}, Survey.{bool_at, number_at}}
+use Rattle.ffs_survey.proofs.{Frontiers.frontier_within, Remaining.{nothing, SameResult}}
 
 -- a calm plain entry that names a directory is before any other that reaches it
 pub calm_names_new : (s : CurrentDir) (reached : ℕ → Bool) (i x : ℕ) (role : Role) (number kind : ℕ) →

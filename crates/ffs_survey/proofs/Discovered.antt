@@ -4,11 +4,9 @@ use Rattle.std.proofs.Common.{length, Option, None, Some, is_some, unwrap_or, re
 use Rattle.std.proofs.{Common.{drop, get_or, get_or-set_same, get_or-set_other, sum_by}, lemmas.Bool.Decides.nat_tests}
 use Rattle.std.proofs.lemmas.List.{Sums.{sum_by-le, sum_by-set, sum_by_push}, at_drop_more, get_or_past, take_more_set}
 use Rattle.std.specs.Option.{option_or}
-use Rattle.ffs_volume.specs.Directories.{Graph.edge, Roles.{RoledEntry, is_plain}}
-use Rattle.ffs_survey.specs.Discover.{bit, from_dirs, from_entries, is_unreached_dir, occurrences}
-use Rattle.ffs_survey.specs.{Discover.unset, Survey.{bool_at, graph_with, number_at}}
-use Rattle.ffs_survey.proofs.Remaining.{nothing, SameResult}
-use Rattle.ffs_volume.specs.Encodings.Kinds.{is_dir_at}
+use Rattle.ffs_volume.specs.{Directories.{Graph.edge, Roles.{RoledEntry, is_plain}}, Encodings.Kinds.is_dir_at}
+use Rattle.ffs_survey.specs.Discover.{bit, from_dirs, from_entries, is_unreached_dir, occurrences, unset}
+use Rattle.ffs_survey.{specs.Survey.{bool_at, graph_with, number_at}, proofs.Remaining.{nothing, SameResult}}
 
 -- tests of numbers, and reading a list in which one element is set
 pub ruleset set_tests = (nat_tests, get_or-set_other, get_or-set_same)

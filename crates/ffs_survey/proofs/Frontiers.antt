@@ -14,9 +14,8 @@ use Rattle.ffs_volume.proofs.{Booleans.both_imply, ClimbLaws.{is_value-from, is_
 use Rattle.ffs_volume.{proofs.Unreached.edge-parts, specs.Directories.{Climb.is_value, Roles.RoledEntry}}
 use Rattle.ffs_volume.specs.Disk.Search.{first_below, some_below}
 use Rattle.ffs_survey.{proofs.Discovered.{dir_below, same_result-to, same_result-refl, set_tests}, specs.Discover.bit}
-use Rattle.ffs_survey.specs.Discover.{occurrences, from_dirs, Rising, IsFrontier, parent_at}
-use Rattle.ffs_survey.proofs.Remaining.{nothing, SameResult}
-use Rattle.ffs_survey.specs.{Discover.LevelsKnown, Survey.{bool_at, graph_with, number_at}}
+use Rattle.ffs_survey.specs.Discover.{occurrences, from_dirs, Rising, IsFrontier, parent_at, LevelsKnown}
+use Rattle.ffs_survey.{proofs.Remaining.{nothing, SameResult}, specs.Survey.{bool_at, graph_with, number_at}}
 
 -- ---- occurrences in a list
 pub occurrences-nil : (t : ℕ) → occurrences t [] ≡ 0

@@ -1,14 +1,12 @@
 -- A level in the queue, and the next one, once what was discovered is sorted.
-use Rattle.std.proofs.Common.{◌≡◌, ◌++◌, ℕ, ◌+◌, ◌*◌, ◌^◌, ◌<◌, ◌≤◌, Bool, List, length, take, drop, arith, ◌∙◌}
-use Rattle.std.{proofs.Common.{ap, All, true}, specs.declared.{vec.Vec.Vec, alloc.Global.Global}}
-use Rattle.ffs_volume.specs.Directories.{Graph.Graph, Roles.RoledEntry}
+use Rattle.std.proofs.Common.{◌≡◌, ◌++◌, ℕ, ◌+◌, ◌*◌, ◌^◌, ◌<◌, ◌≤◌, Bool, List, length, take, drop, arith, ◌∙◌, ap}
+use Rattle.std.{proofs.Common.{All, true}, specs.declared.{vec.Vec.Vec, alloc.Global.Global}}
+use Rattle.ffs_volume.specs.{Directories.{Graph.Graph, Roles.RoledEntry}, Encodings.Kinds.is_dir_at}
 use Rattle.ffs_memory.specs.Filled.{SortsPart}
-use Rattle.ffs_survey.specs.{declared.lists.Lists.Lists, Lent.{CountsAtMost}}
-use Rattle.ffs_survey.specs.Discover.{IsReachedDir, Extends, IsFrontier, LevelsKnown, from_dirs}
-use Rattle.ffs_survey.{specs.{Discover.unset, Survey.{number_at, graph_with}}, proofs.Remaining.{nothing, SameResult}}
-use Rattle.ffs_volume.specs.Encodings.Kinds.{is_dir_at}
-use Rattle.ffs_survey.proofs.{CalmLaws.frontier_reached, Frontiers.{frontier_dirs, sane_of}}
-use Rattle.ffs_survey.proofs.{Queues.{level_after, queue_parts, same_result_after}}
+use Rattle.ffs_survey.specs.{declared.lists.Lists.Lists, Lent.CountsAtMost, Discover.{IsReachedDir, Extends}}
+use Rattle.ffs_survey.specs.{Discover.{IsFrontier, LevelsKnown, from_dirs, unset}, Survey.{number_at, graph_with}}
+use Rattle.ffs_survey.proofs.{Remaining.{nothing, SameResult}, CalmLaws.frontier_reached, Frontiers.frontier_dirs}
+use Rattle.ffs_survey.proofs.{Frontiers.sane_of, Queues.{level_after, queue_parts, same_result_after}}
 
 -- A level is in the queue from `low` to `high`: after it there is room for all that isn't reached
 -- yet, and no inode has more references than its start and the directories before it can give.

@@ -2,18 +2,16 @@
 use Rattle.std.proofs.Common.{◌≡◌, ℕ, suc, ◌+◌, ◌-◌, ◌<◌, ◌≤◌, All, Option, Bool, List, [], ◌∷◌, ◌++◌, length, take}
 use Rattle.std.proofs.Common.{drop, cond, None, unwrap_or, ◌||◌, false, count_by, arith, sym, ◌∙◌, ap, subst}
 use Rattle.std.proofs.{Common.{IsPermutation, add-zero, get_or}, lemmas.List.{get_or-drop, get_or-take, get_or_past}}
-use Rattle.std.proofs.{lemmas.{List.{length-drop, take-append-drop, take-take}, Bool.and_left}, Math.Bool.or-false}
-use Rattle.std.proofs.lemmas.{Bool.cond-false, Grind.common_steps, List.{Folds.list_any-append, Sums.sum_by-append}}
-use Rattle.std.specs.List.Sorted.{IsNonDecreasing}
-use Rattle.ffs_volume.{specs.Directories.{Graph.{Graph, is_naming_dir, parent}, Roles.RoledEntry}, proofs.Graphs.IsSane}
-use Rattle.ffs_volume.specs.Directories.Roles.{refers}
+use Rattle.std.proofs.lemmas.{List.{length-drop, take-append-drop, take-take}, Bool.{and_left, cond-false}}
+use Rattle.std.proofs.{Math.Bool.or-false, lemmas.{Grind.common_steps, List.Folds.list_any-append}}
+use Rattle.std.{proofs.lemmas.List.Sums.sum_by-append, specs.List.Sorted.IsNonDecreasing}
+use Rattle.ffs_volume.specs.Directories.{Graph.{Graph, is_naming_dir, parent}, Roles.{RoledEntry, refers}}
+use Rattle.ffs_volume.{proofs.Graphs.IsSane, specs.Encodings.Kinds.is_dir_at}
 use Rattle.ffs_survey.proofs.Frontiers.{next_level, frontier_from, queue_grows, IsNext, occurrences-append}
 use Rattle.ffs_survey.{proofs.Frontiers.{occurrences-permutation, no_more, root_alone}, specs.Discover.Extends}
-use Rattle.ffs_survey.specs.Discover.{occurrences, from_dirs, IsFrontier, LevelsKnown, IsCount}
-use Rattle.ffs_survey.specs.{Discover.{IsReachedPart, count_of, any_of}, Survey.bool_at}
-use Rattle.ffs_survey.proofs.Remaining.{nothing, none, never, Counts, SameResult}
-use Rattle.ffs_survey.{specs.Survey.{number_at, graph_with, counted_in}, proofs.Totals.{any_all, count_all}}
-use Rattle.ffs_volume.specs.Encodings.Kinds.{is_dir_at}
+use Rattle.ffs_survey.specs.Discover.{occurrences, from_dirs, IsFrontier, LevelsKnown, IsCount, IsReachedPart, count_of}
+use Rattle.ffs_survey.specs.{Discover.any_of, Survey.{bool_at, number_at, graph_with, counted_in}}
+use Rattle.ffs_survey.proofs.{Remaining.{nothing, none, never, Counts, SameResult}, Totals.{any_all, count_all}}
 
 -- a queue that is extended twice
 pub extends_on : {a b c : ℕ} {q q' q'' : List ℕ} → Extends a b q q' → Extends b c q' q'' → Extends a c q q''

@@ -1,24 +1,20 @@
 -- Each reached directory is read once, when no child of it is reached: so those that are calm by the
 -- parents of what they name have a flag.
-use Rattle.std.proofs.Common.{◌≡◌, ◌≢◌, ℕ, zero, suc, ◌+◌, ◌-◌, ◌<◌, ◌≤◌, Bool, true, List, [], ◌∷◌, length}
-use Rattle.std.proofs.Common.{take, drop, get_or, All, Some, unwrap_or, arith}
-use Rattle.std.proofs.Common.{refl, sym, ◌∙◌, ap, subst, inl, inr, length-take, nat_le}
-use Rattle.std.proofs.lemmas.Bool.{and_parts, and_from, eq-eqb, ne_eqb, cases_lt, leb-true, Decides.nat_tests}
-use Rattle.std.proofs.lemmas.List.{get_or-drop, get_or_default, length-drop, get_or-take}
-use Rattle.ffs_volume.specs.declared.{Role.{Role, TheVariants.{Empty, Dot, Dotdot, Extra, Plain}}}
+use Rattle.std.proofs.Common.{◌≡◌, ◌≢◌, ℕ, zero, suc, ◌+◌, ◌-◌, ◌<◌, ◌≤◌, Bool, true, List, [], ◌∷◌, length, take, drop}
+use Rattle.std.proofs.Common.{get_or, All, Some, unwrap_or, arith, refl, sym, ◌∙◌, ap, subst, inl, inr, length-take}
+use Rattle.std.proofs.{Common.nat_le, lemmas.Bool.{and_parts, and_from, eq-eqb, ne_eqb, cases_lt, leb-true}}
+use Rattle.std.proofs.lemmas.{Bool.Decides.nat_tests, List.{get_or-drop, get_or_default, length-drop, get_or-take}}
+use Rattle.ffs_volume.specs.declared.Role.{Role, TheVariants.{Empty, Dot, Dotdot, Extra, Plain}}
 use Rattle.ffs_volume.specs.Directories.{Climb.is_value, Graph.{level, parent, within}, Roles.RoledEntry}
 use Rattle.ffs_volume.proofs.{ClimbLaws.is_value-true, Graphs.IsSane, LevelLaws.level-from}
-use Rattle.ffs_survey.specs.Calm.{IsFlagged}
 use Rattle.ffs_volume.specs.Costs.Calm.{CurrentDir, is_calm_role, is_calm_entry, reached_after, are_calm}
-use Rattle.ffs_survey.specs.Calm.{dir_by, AreUnread, IsReadOnce, IsUnread}
-use Rattle.ffs_volume.specs.Costs.Calm.{is_calm_by_parents, is_elsewhere}
-use Rattle.ffs_survey.specs.Discover.{bit, from_entries, occurrences, IsFrontier, LevelsKnown}
-use Rattle.ffs_survey.proofs.Remaining.{nothing, SameResult}
+use Rattle.ffs_volume.specs.{Costs.Calm.{is_calm_by_parents, is_elsewhere}, Encodings.Kinds.is_dir_at}
+use Rattle.ffs_survey.specs.{Calm.{IsFlagged, dir_by, AreUnread, IsReadOnce, IsUnread}, Discover.{bit, from_entries}}
+use Rattle.ffs_survey.{specs.Discover.{occurrences, IsFrontier, LevelsKnown}, proofs.Remaining.{nothing, SameResult}}
 use Rattle.ffs_survey.{proofs.ParentLaws.{parent_above, root_level}, specs.Survey.{bool_at, graph_with, number_at}}
-use Rattle.ffs_volume.specs.Encodings.Kinds.{is_dir_at}
-use Rattle.ffs_survey.proofs.{CalmLaws.{Stays, all_calm, same_result_stays}, Discovered.{bit-le}}
-use Rattle.ffs_survey.proofs.Frontiers.{bit-one, occurrences-at, occurrences-cons}
-use Rattle.ffs_survey.proofs.{Frontiers.{frontier_dirs, occurrences-index, sane_of, within-bound}, Queues.at_place}
+use Rattle.ffs_survey.proofs.{CalmLaws.{Stays, all_calm, same_result_stays}, Discovered.bit-le, Frontiers.bit-one}
+use Rattle.ffs_survey.proofs.Frontiers.{occurrences-at, occurrences-cons, frontier_dirs, occurrences-index, sane_of}
+use Rattle.ffs_survey.proofs.{Frontiers.within-bound, Queues.at_place}
 
 -- ---- where less is reached, no fewer entries are calm
 calm_role_less : (s : CurrentDir) (r r' : ℕ → Bool) (i : ℕ) (role : Role) (number kind : ℕ) →

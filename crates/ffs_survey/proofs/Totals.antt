@@ -6,13 +6,12 @@ use Rattle.std.proofs.lemmas.Bool.{or_left, or_right, or_cases, lt-ltb, le-ltb, 
 use Rattle.std.{proofs.lemmas.List.{Sums.sum_by-cons, at_drop_more}, specs.List.list_any}
 use Rattle.ffs_volume.proofs.{Booleans.both_imply, SearchLaws.{some_below-from, some_below-gives, some_below-suc}}
 use Rattle.ffs_volume.specs.Directories.{Graph.{Graph, is_naming_dir, is_naming_entry}, Roles.{RoledEntry, refers}}
-use Rattle.ffs_volume.specs.Disk.Search.{first_below, some_below}
+use Rattle.ffs_volume.specs.{Disk.Search.{first_below, some_below}, Encodings.Kinds.is_dir_at}
+use Rattle.ffs_volume.specs.Costs.DirectoryReads.{costs_below}
 use Rattle.ffs_survey.proofs.Frontiers.{occurrences-cases, occurrences-cons, occurrences-nil, occurrences-head, bit-one}
 use Rattle.ffs_survey.specs.Discover.{bit, occurrences, count_of, any_of, counted_by, count_in, any_in}
-use Rattle.ffs_survey.specs.Survey.{counted_in, counted_below, number_at, bool_at, graph_with}
-use Rattle.ffs_survey.proofs.Remaining.{none, never, Counts}
-use Rattle.ffs_volume.specs.Encodings.Kinds.{is_dir_at}
-use Rattle.ffs_volume.specs.Costs.DirectoryReads.{costs_below}
+use Rattle.ffs_survey.{specs.Survey.{counted_in, counted_below, number_at, bool_at, graph_with}, proofs.Remaining.none}
+use Rattle.ffs_survey.proofs.Remaining.{never, Counts}
 
 abbrev part : (ℕ → ℕ) → ℕ → List ℕ → ℕ
 part c n q = sum_by (λ s. cond (nat_lt s n) (c s) 0) q

@@ -1,10 +1,9 @@
 -- A directory of which nothing can be reported, by what a survey sees where it reads it.
-use Rattle.std.specs.Prelude.{◌≡◌, ◌≢◌, ◌<◌, All, get_or, ℕ, ◌==◌, Bool, true, ◌&&◌, ◌||◌, nat_lt, List}
-use Rattle.std.specs.{Prelude.length, List.list_any}
-use Rattle.ffs_volume.specs.Directories.{Roles.RoledEntry, Graph.is_naming_entry}
-use Rattle.ffs_survey.specs.Survey.{bool_at, number_at}
-use Rattle.ffs_volume.specs.Encodings.Kinds.{is_dir_at}
+use Rattle.std.specs.Prelude.{◌≡◌, ◌≢◌, ◌<◌, All, get_or, ℕ, ◌==◌, Bool, true, ◌&&◌, ◌||◌, nat_lt, List, length}
+use Rattle.std.specs.List.{list_any}
+use Rattle.ffs_volume.specs.{Directories.{Roles.RoledEntry, Graph.is_naming_entry}, Encodings.Kinds.is_dir_at}
 use Rattle.ffs_volume.specs.Costs.Calm.{are_calm, is_elsewhere, is_calm_by_parents, CurrentDir}
+use Rattle.ffs_survey.specs.Survey.{bool_at, number_at}
 
 -- the directory d, by the kinds, the marks and the parents of all inodes
 abbrev pub dir_by : List ℕ → List Bool → List ℕ → ℕ → CurrentDir

@@ -1,15 +1,12 @@
 -- What a call needs of the lists of a survey and of its reader, what it does with them, and what it leaves.
-use Rattle.std.specs.{Prelude.{◌≡◌, ℕ, ◌+◌, ◌^◌, ◌<◌, ◌≤◌, All, Bool, List, Result, length, take, drop}, Borrow.GName}
-use Rattle.std.specs.Prelude.{vec_len, true, false, ◌==◌, ◌&&◌, cond, OnOk, [], ◌∷◌}
+use Rattle.std.specs.Prelude.{◌≡◌, ℕ, ◌+◌, ◌^◌, ◌<◌, ◌≤◌, All, Bool, List, Result, length, take, drop, vec_len, true}
+use Rattle.std.specs.{Prelude.{false, ◌==◌, ◌&&◌, cond, OnOk, [], ◌∷◌}, Borrow.GName}
 use Rattle.ffs_image.specs.{Reads.ReadAfter, declared.image.ImageFault.ImageFault}
-use Rattle.ffs_volume.specs.Directories.{Graph.is_naming_entry, Roles.RoledEntry}
-use Rattle.ffs_survey.specs.declared.lists.{Lists.Lists, FoundLists.FoundLists, KnownInodes.KnownInodes}
-use Rattle.ffs_survey.specs.declared.lists.{LentDir.LentDir}
-use Rattle.ffs_survey.specs.{declared.directories.Directories.Ghosts, Survey.{number_at, bool_at, graph_with}}
-use Rattle.ffs_survey.specs.Survey.{most_start}
-use Rattle.ffs_volume.specs.Encodings.Kinds.{is_dir_at}
-use Rattle.ffs_survey.specs.Calm.{dir_by, AreCalm, IsFlagged, IsReadOnce}
+use Rattle.ffs_volume.specs.{Directories.{Graph.is_naming_entry, Roles.RoledEntry}, Encodings.Kinds.is_dir_at}
 use Rattle.ffs_volume.specs.Costs.{Calm.CurrentDir, DirectoryReads.costs_below}
+use Rattle.ffs_survey.specs.declared.lists.{Lists.Lists, FoundLists.FoundLists, KnownInodes.KnownInodes}
+use Rattle.ffs_survey.specs.{declared.{lists.LentDir.LentDir, directories.Directories.Ghosts}, Survey.number_at}
+use Rattle.ffs_survey.specs.{Survey.{bool_at, graph_with, most_start}, Calm.{dir_by, AreCalm, IsFlagged, IsReadOnce}}
 use Rattle.ffs_survey.specs.Discover.{AreDiscovered, Extends, Found, IsReachedDir, IsReachedPart, from_entries}
 use Rattle.ffs_survey.specs.{Discover.{is_unreached_dir, unset}, Levels.ReadsUnreached, Lists.{AreLists, GrowsBy}}
 

@@ -1,11 +1,10 @@
 -- What the reading of directories makes of what a survey has found.
 use Rattle.std.specs.Prelude.{◌≡◌, ℕ, ◌+◌, ◌<◌, ◌≤◌, ◌==◌, All, Bool, true, ◌&&◌, cond, List, length, take}
-use Rattle.ffs_volume.specs.Directories.Roles.{RoledEntry}
+use Rattle.ffs_volume.specs.{Directories.Roles.RoledEntry, Costs.Calm.are_calm}
 use Rattle.ffs_survey.specs.{Survey.{bool_at, number_at, graph_with, IsSurvey}, Calm.{dir_by, AreCalm, IsFlagged}}
-use Rattle.ffs_volume.specs.Costs.Calm.{are_calm}
-use Rattle.ffs_survey.specs.Calm.{AreUnread, EachCalmIsFlagged, IsReadOnce}
-use Rattle.ffs_survey.specs.Discover.{Found, AreCountedOn, AreDiscovered, from_entries, from_dirs, count_in}
-use Rattle.ffs_survey.specs.{Discover.{any_in, count_of, any_of, is_unreached_dir, unset}, Lists.GrowsBy}
+use Rattle.ffs_survey.specs.{Calm.{AreUnread, EachCalmIsFlagged, IsReadOnce}, Discover.{Found, AreCountedOn}}
+use Rattle.ffs_survey.specs.Discover.{AreDiscovered, from_entries, from_dirs, count_in, any_in, count_of, any_of}
+use Rattle.ffs_survey.specs.{Discover.{is_unreached_dir, unset}, Lists.GrowsBy}
 
 -- the reached directory d with these entries is read
 pub record ReadsReached (d : ℕ) (entries : List RoledEntry) (right_shape : Bool) (old new : Found) : Type 0 where

@@ -5,16 +5,14 @@ use Rattle.ffs_volume.specs.Directories.PathnameCheck.{attributes, root_lines, h
 use Rattle.ffs_volume.specs.Directories.PathnameCheck.{dir_header_lines, plain_verdict, entry_lines, lines_of_entries}
 use Rattle.ffs_volume.specs.Directories.{PathnameCheck.{sized_dir_lines, pathname_lines}, Paths.longest_end}
 use Rattle.ffs_volume.specs.Directories.Paths.{path_bytes, names_down, dir_path, entry_path}
-use Rattle.ffs_volume.specs.Directories.ReferenceCheck.{inode_reference_lines, reference_lines}
-use Rattle.ffs_volume.specs.Directories.Roles.{role_of, roled_from}
-use Rattle.ffs_volume.specs.Directories.Roles.{roled_entries, start_entry, dot, dotdot, references_below}
+use Rattle.ffs_volume.specs.Directories.{ReferenceCheck.{inode_reference_lines, reference_lines}, Roles.role_of}
+use Rattle.ffs_volume.specs.Directories.Roles.{roled_from, roled_entries, start_entry, dot, dotdot, references_below}
 use Rattle.ffs_volume.specs.Disk.{Numbers.{number, u16_at, u32_at}, Search.{first_below, earliest}}
 use Rattle.ffs_volume.specs.Examples.DirectoryExamples.{entry_bytes, with_second_entry, entry, two_chunks, dots, small}
 use Rattle.ffs_volume.specs.Examples.DirectoryExamples.{whole_chunk, class_with_dirs_below, dir_attr, alone}
-use Rattle.ffs_volume.specs.Examples.DirectoryExamples.{lost_entries}
-use Rattle.ffs_volume.specs.Examples.DirectoryExamples.{below_entries, lost_cycle, twice_entries, twice, sub_entries}
-use Rattle.ffs_volume.specs.Examples.DirectoryExamples.{sub, empty_dir, dead_entries, dead_parent, sized, long_name}
-use Rattle.ffs_volume.specs.Examples.DirectoryExamples.{EntryExamples, PathnameExamples, ReferenceExamples}
+use Rattle.ffs_volume.specs.Examples.DirectoryExamples.{lost_entries, below_entries, lost_cycle, twice_entries, twice}
+use Rattle.ffs_volume.specs.Examples.DirectoryExamples.{sub_entries, sub, empty_dir, dead_entries, dead_parent, sized}
+use Rattle.ffs_volume.specs.Examples.DirectoryExamples.{long_name, EntryExamples, PathnameExamples, ReferenceExamples}
 use Rattle.ffs_volume.specs.{Examples.Images.{bytes_in, word, zero_bytes, root_chunk}, Messages.Kinds.lines_below}
 
 -- what the examples compute with

@@ -1,9 +1,8 @@
 -- Conditions on graphs of directories, which laws speak of.
 use Rattle.std.proofs.Common.{◌≡◌, ◌≢◌, ℕ, ◌<◌, Bool, true, false, Some}
-use Rattle.ffs_volume.specs.Directories.Graph.{Graph, reached, parent, parent_entry_index}
-use Rattle.ffs_volume.specs.Directories.{Connectivity.{is_dead_in, is_unref_dir_in}, Graph.is_naming_entry_at}
-use Rattle.ffs_volume.specs.Consistent.DirectoriesRight.{IsNamedOnce}
-use Rattle.ffs_volume.specs.declared.constants.TheConstants.{ROOTINO}
+use Rattle.ffs_volume.specs.Directories.Graph.{Graph, reached, parent, parent_entry_index, is_naming_entry_at}
+use Rattle.ffs_volume.specs.Directories.Connectivity.{is_dead_in, is_unref_dir_in}
+use Rattle.ffs_volume.specs.{Consistent.DirectoriesRight.IsNamedOnce, declared.constants.TheConstants.ROOTINO}
 
 -- a directory has the number of an inode, and there is an inode 2
 pub record IsSane (g : Graph) : Type 0 where

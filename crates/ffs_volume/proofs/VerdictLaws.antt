@@ -1,16 +1,14 @@
 -- By a verdict on an entry, and by what is wrong with a directory, there is a message just where they
 -- aren't silent.
-use Rattle.std.proofs.Common.{◌≡◌, ◌≤◌, ◌==◌, ℕ, Bool, true, false, nat_lt, refl, ap, List, []}
-use Rattle.std.proofs.{Common.{arith, length, length-append, inl, inr}, lemmas.Bool.{Decides.nat_tests, cases_Bool}}
-use Rattle.ffs_volume.specs.declared.{Attr.Attr, verdict.Verdict.{Verdict, TheVariants.{Named}}}
-use Rattle.ffs_volume.specs.declared.verdict.{Verdict.TheVariants.{Whiteout}}
+use Rattle.std.proofs.Common.{◌≡◌, ◌≤◌, ◌==◌, ℕ, Bool, true, false, nat_lt, refl, ap, List, [], arith, length}
+use Rattle.std.proofs.{Common.{length-append, inl, inr}, lemmas.Bool.{Decides.nat_tests, cases_Bool}}
+use Rattle.ffs_volume.specs.declared.{Attr.Attr, verdict.Verdict.{Verdict, TheVariants.{Named, Whiteout}}}
 use Rattle.ffs_volume.specs.{Blocks.Inodes.is_allocated, Directories.{Entries.Entry, Roles.Volume}}
 use Rattle.ffs_volume.specs.Directories.PathnameCheck.{has_wrong_type, is_bad_whiteout, is_extraneous}
-use Rattle.ffs_volume.specs.Directories.PathnameCheck.{is_first_of_suspect, verdict_on}
-use Rattle.ffs_volume.specs.declared.verdict.{HeaderDefects.HeaderDefects, DotDefects.DotDefects}
-use Rattle.ffs_volume.specs.declared.verdict.DotDefects.TheVariants.{Found}
-use Rattle.ffs_volume.specs.Directories.PathnameCheck.{verdict_lines, is_silent, header_lines, dot_lines, dotdot_lines}
-use Rattle.ffs_volume.specs.Directories.PathnameCheck.{is_header_silent, is_dot_silent}
+use Rattle.ffs_volume.specs.Directories.PathnameCheck.{is_first_of_suspect, verdict_on, verdict_lines, is_silent}
+use Rattle.ffs_volume.specs.Directories.PathnameCheck.{header_lines, dot_lines, dotdot_lines, is_header_silent}
+use Rattle.ffs_volume.specs.{Directories.PathnameCheck.is_dot_silent, declared.verdict.HeaderDefects.HeaderDefects}
+use Rattle.ffs_volume.specs.declared.verdict.DotDefects.{DotDefects, TheVariants.Found}
 
 -- ---- on an entry
 pub silent_lines : (verdict : Verdict) (number : ℕ) (attr : Attr) (path directory : List ℕ) →

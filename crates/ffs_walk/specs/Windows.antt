@@ -2,13 +2,11 @@
 use Rattle.std.specs.Prelude.{◌≡◌, ◌*◌, ◌+◌, ◌/◌, ◌<◌, ◌≤◌, ℕ, List, length, take, Option, Some, None, vec_len, get_or}
 use Rattle.std.specs.Prelude.{Result, OnOk, OnErr, IfErr, IsTrue}
 use Rattle.ffs_image.specs.{Device.{Device, ForContents}, Reads.ReadAfter, declared.image.ImageFault.ImageFault}
-use Rattle.ffs_image.specs.declared.image.Image as image
-use Rattle.ffs_volume.specs.{declared.Layout.Layout, Disk.{Areas.is_run_in_range, Numbers.piece}}
-use Rattle.ffs_volume.specs.declared.constants.TheConstants.{DEV_BSIZE}
-use Rattle.ffs_volume.specs.Blocks.Steps.{address_in, block_bytes}
+use Rattle.ffs_volume.specs.{declared.Layout.Layout, Disk.{Areas.{is_run_in_range, FitsIn}, Numbers.piece}}
+use Rattle.ffs_volume.specs.{declared.constants.TheConstants.DEV_BSIZE, Blocks.Steps.{address_in, block_bytes}}
 use Rattle.ffs_memory.specs.declared.fixed_list.FixedList.{FixedList}
 use Rattle.ffs_walk.specs.declared.{window.Window.Window, blocks.Blocks.Blocks}
-use Rattle.ffs_volume.specs.Disk.Areas.{FitsIn}
+use Rattle.ffs_image.specs.declared.image.Image as image
 
 -- a moment of an image that is read through a cache, as a window or the blocks of a walk: the image, how
 -- often it was read by then, and the cache

@@ -2,11 +2,10 @@
 use Rattle.std.specs.Prelude.{◌≡◌, ◌*◌, ◌≤◌, ℕ, false, List, Option, Result, IfOk, replicate, vec_len}
 use Rattle.ffs_image.specs.Device.{Device}
 use Rattle.ffs_memory.specs.Account.{Account, Asks}
-use Rattle.ffs_volume.specs.{declared.Layout.Layout, Blocks.Inodes.inodes_of}
+use Rattle.ffs_volume.specs.{declared.Layout.Layout, Blocks.Inodes.inodes_of, Disk.Areas.FitsIn}
 use Rattle.ffs_walk.specs.Windows.{BlocksHold, WindowHolds}
 use Rattle.ffs_workspace.specs.{declared.workspace.{Windows.Windows, Workspace.Workspace}, Holds.IsFresh, Lengths.IsFor}
 use Rattle.ffs_workspace.specs.{Lengths.HoldWindows, Tables.TableHolds}
-use Rattle.ffs_volume.specs.Disk.Areas.{FitsIn}
 
 -- its lists and windows have the lengths of the volume, and the image has all of the volume: what a phase
 -- needs. Its windows may hold what another image gave

@@ -1,9 +1,8 @@
 -- How often phase 2 reads directories, by what the volume holds.
 use Rattle.std.specs.Prelude.{ℕ, zero, suc, ◌+◌, ◌*◌, Bool, true, not, ◌&&◌, ◌||◌, nat_lt, cond, List, if◌then◌else◌}
-use Rattle.ffs_volume.specs.{declared.Layout.Layout, Disk.Search.some_below}
-use Rattle.ffs_volume.specs.Blocks.{Inodes.{inode_of, inodes_of}, Steps.steps_of}
-use Rattle.ffs_volume.specs.{Costs.Calm.is_calm_directory, Directories.{PathnameCheck.is_sized_dir, Roles.is_dir}}
-use Rattle.ffs_volume.specs.Directories.Volumes.{marked_at, volume_of}
+use Rattle.ffs_volume.specs.{declared.Layout.Layout, Disk.Search.some_below, Blocks.Inodes.{inode_of, inodes_of}}
+use Rattle.ffs_volume.specs.{Blocks.Steps.steps_of, Costs.Calm.is_calm_directory}
+use Rattle.ffs_volume.specs.Directories.{PathnameCheck.is_sized_dir, Roles.is_dir, Volumes.{marked_at, volume_of}}
 use Rattle.ffs_volume.specs.Encodings.{Notes.{first_noted, note_at}, Replay.{cut_at, fresh_replay}}
 use Rattle.ffs_volume.specs.Encodings.ReplayCounts.{replayed_runs}
 

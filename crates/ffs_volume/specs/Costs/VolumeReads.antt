@@ -1,14 +1,12 @@
 -- How often a check reads an image that gives its bytes, by what the volume holds: its inode tables and
 -- indirect blocks, its directories, and each phase for its own messages.
-use Rattle.std.specs.Prelude.{ℕ, ◌+◌, List, [], ◌∷◌, Some, None, if◌then◌else◌}
-use Rattle.ffs_volume.specs.declared.{Layout.Layout, Step.{Step, TheVariants.{Run, Tail, Gap}}}
-use Rattle.ffs_volume.specs.Blocks.{Claims.{Claims, after_owner, after_step, at_next_inode, is_open, no_claims}}
-use Rattle.ffs_volume.specs.{Blocks.Owners.{Owner, owners_of}, Report.Reads.table_blocks}
-use Rattle.std.specs.Prelude.{Bool, length, ◌*◌}
+use Rattle.std.specs.Prelude.{ℕ, ◌+◌, List, [], ◌∷◌, Some, None, if◌then◌else◌, Bool, length, ◌*◌}
+use Rattle.ffs_volume.specs.{declared.{Layout.Layout, Step.{Step, TheVariants.{Run, Tail, Gap}}}, Blocks.Claims.Claims}
+use Rattle.ffs_volume.specs.Blocks.{Claims.{after_owner, after_step, at_next_inode, is_open, no_claims}, Owners.Owner}
+use Rattle.ffs_volume.specs.{Blocks.Owners.owners_of, Report.Reads.{table_blocks, group_reads, line_reads}}
 use Rattle.ffs_volume.specs.{Blocks.BlockCheck.has_dup_lines, Costs.DirectoryReads.phase2_cost}
 use Rattle.ffs_volume.specs.Directories.{Connectivity.connectivity_lines, ReferenceCheck.reference_lines}
 use Rattle.ffs_volume.specs.Directories.{PathnameCheck.{continues_after_root, pathname_lines}, Volumes.volume_of}
-use Rattle.ffs_volume.specs.Report.Reads.{group_reads, line_reads}
 
 -- 1 for an indirect block that is seen, else 0
 abbrev pub seen_indirect : Claims → Step → ℕ

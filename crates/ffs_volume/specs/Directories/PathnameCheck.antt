@@ -8,10 +8,10 @@ use Rattle.ffs_volume.specs.declared.{Label.TheVariants.Name as NameLabel, Role.
 use Rattle.ffs_volume.specs.{declared.Role.TheVariants.{Dotdot, Extra, Plain}, Directories.Entries.{Entry, Chunk}}
 use Rattle.ffs_volume.specs.{Directories.Entries.is_live, Blocks.Inodes.{type_of, is_directory, is_allocated}}
 use Rattle.ffs_volume.specs.{Blocks.Inodes.is_unknown, Directories.Roles.{Volume, RoledEntry, is_dir, is_suspect}}
-use Rattle.ffs_volume.specs.Directories.Roles.{is_one_dot, is_two_dots, start_entry, roled_entries}
-use Rattle.ffs_volume.specs.Directories.{Graph.parent, Naming.{graph_of, is_first_naming_entry, is_parent_entry}}
-use Rattle.ffs_volume.specs.{Directories.Paths.{dir_path, entry_path}, Messages.Kinds.{TreeMessage, reported}}
-use Rattle.ffs_volume.specs.Messages.Kinds.{lines_below}
+use Rattle.ffs_volume.specs.Directories.{Roles.{is_one_dot, is_two_dots, start_entry, roled_entries}, Graph.parent}
+use Rattle.ffs_volume.specs.Directories.{Naming.{graph_of, is_first_naming_entry, is_parent_entry}, Paths.dir_path}
+use Rattle.ffs_volume.specs.{Directories.Paths.entry_path, Messages.Kinds.{TreeMessage, reported, lines_below}}
+use Rattle.ffs_volume.specs.Messages.Kinds.{of_directory, of_dot, of_entry}
 use Rattle.ffs_volume.specs.declared.tree_lines.DirectoryLine.TheVariants.{DirCorrupt, DirHoles, DirLength, DirShort}
 use Rattle.ffs_volume.specs.declared.tree_lines.DirectoryLine.TheVariants.{RootNone, RootNotDir, RootSuspect}
 use Rattle.ffs_volume.specs.declared.tree_lines.DotLine.TheVariants.{ExtraDot, ExtraDotdot, TypeDot, TypeDotdot}
@@ -22,11 +22,9 @@ use Rattle.ffs_volume.specs.declared.tree_lines.EntryLine.TheVariants.{OutOfRang
 use Rattle.ffs_volume.specs.declared.tree_lines.EntryLine.TheVariants.{Unallocated as UnallocatedLine}
 use Rattle.ffs_volume.specs.declared.tree_lines.EntryLine.TheVariants.{BadWhiteout as BadWhiteoutLine}
 use Rattle.ffs_volume.specs.declared.verdict.{EntryDefects.EntryDefects, HeaderDefects.HeaderDefects}
-use Rattle.ffs_volume.specs.declared.verdict.{DotDefects.{DotDefects, TheVariants.{Missing, Other, Found}}}
+use Rattle.ffs_volume.specs.declared.verdict.DotDefects.{DotDefects, TheVariants.{Missing, Other, Found}}
 use Rattle.ffs_volume.specs.declared.verdict.Verdict.{Verdict, TheVariants.{BadWhiteout, Named, OutOfRange}}
 use Rattle.ffs_volume.specs.declared.verdict.Verdict.TheVariants.{Unallocated, Whiteout}
-use Rattle.ffs_volume.specs.Messages.Kinds.{of_directory, of_dot}
-use Rattle.ffs_volume.specs.Messages.Kinds.{of_entry}
 
 -- what messages show of an inode of this number
 abbrev pub attributes_of : ℕ → Inode → Attr

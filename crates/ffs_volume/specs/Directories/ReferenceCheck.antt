@@ -1,11 +1,10 @@
 -- What the check of reference counts, phase 4, reports.
 use Rattle.std.specs.Prelude.{ℕ, ◌==◌, not, List, [], ◌∷◌, if◌then◌else◌}
 use Rattle.ffs_volume.specs.{Disk.Numbers.equals_natural, Directories.Roles.{Volume, is_allocated_inode, references}}
-use Rattle.ffs_volume.specs.{Messages.Kinds.{TreeMessage, lines_below, reported}, Directories.PathnameCheck.attributes}
-use Rattle.ffs_volume.specs.Directories.{PathnameCheck.label_of, Connectivity.is_dead}
+use Rattle.ffs_volume.specs.Messages.Kinds.{TreeMessage, lines_below, reported, of_reference}
+use Rattle.ffs_volume.specs.Directories.{PathnameCheck.{attributes, label_of}, Connectivity.is_dead}
 use Rattle.ffs_volume.specs.declared.tree_lines.ReferenceLine.TheVariants.{DeadMarked, DeadZero, LinkCount, Unref}
 use Rattle.ffs_volume.specs.declared.tree_lines.ReferenceLine.TheVariants.{UnrefZero}
-use Rattle.ffs_volume.specs.Messages.Kinds.{of_reference}
 
 -- the message on a dead inode
 abbrev pub dead_lines : Volume → ℕ → List TreeMessage

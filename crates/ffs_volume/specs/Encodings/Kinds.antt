@@ -1,11 +1,9 @@
 -- A number for the class of an inode and the type of a file, the *kind* of the inode: it fits four
 -- bits. The `kind` of an entry is its type alone.
-use Rattle.std.specs.Prelude.{ℕ, Bool, not, ◌||◌, ◌==◌, if◌then◌else◌, List}
+use Rattle.std.specs.Prelude.{ℕ, Bool, not, ◌||◌, ◌==◌, if◌then◌else◌, List, nat_le, ◌&&◌}
 use Rattle.ffs_volume.specs.declared.{constants.TheConstants.{DT_DIR, EMPTY_DIR_KIND, UNKNOWN_KIND}, Layout.Layout}
 use Rattle.ffs_volume.specs.declared.{Inode.Inode, Class.{Class, TheVariants.{Free, Partial, Unknown, File, Dir}}}
-use Rattle.ffs_volume.specs.{Blocks.Inodes.{inode_of, type_of}, Directories.Volumes.class_at}
-use Rattle.std.specs.Prelude.{nat_le, ◌&&◌}
-use Rattle.ffs_volume.specs.Encodings.Lists.{number_at}
+use Rattle.ffs_volume.specs.{Blocks.Inodes.{inode_of, type_of}, Directories.Volumes.class_at, Encodings.Lists.number_at}
 
 -- 0 where nothing is allocated, and a number of its own for the class Unknown and for a directory
 -- of size 0; else the type of the file or directory

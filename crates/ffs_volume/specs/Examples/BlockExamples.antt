@@ -10,10 +10,9 @@ use Rattle.ffs_volume.specs.{declared.BlockMessage.TheVariants.GroupSums, Blocks
 use Rattle.ffs_volume.specs.Blocks.{Steps.steps_of, Owners.{Owner, owners_of}, Claims.{no_claims, is_set, after_owners}}
 use Rattle.ffs_volume.specs.Blocks.{KeptOffers.kept_in_owners, BlockCheck.{phase1_lines, phase1b_lines}}
 use Rattle.ffs_volume.specs.{Blocks.KeptByRule.{all_offers, kept_by_rule}, Groups.Records.right_group_counts}
-use Rattle.ffs_volume.specs.Groups.{Records.{right_frsum, right_total}, GroupCheck.phase5_lines}
-use Rattle.ffs_volume.specs.Consistent.GroupsRight.{is_free_of_runs}
-use Rattle.ffs_volume.specs.{Groups.GroupCheck.{reported_once, unreported}, Examples.Images.{word, zero_bytes, changed}}
-use Rattle.ffs_volume.specs.Examples.Images.{base_layout, base_image, two_groups}
+use Rattle.ffs_volume.specs.Groups.{Records.{right_frsum, right_total}, GroupCheck.{phase5_lines, reported_once}}
+use Rattle.ffs_volume.specs.{Groups.GroupCheck.unreported, Consistent.GroupsRight.is_free_of_runs, Examples.Images.word}
+use Rattle.ffs_volume.specs.Examples.Images.{zero_bytes, changed, base_layout, base_image, two_groups}
 
 -- an inode of this mode and size with these addresses, and zeros after them
 unfoldable pub inode : (mode size : ℕ) → List ℕ → Inode

@@ -20,9 +20,7 @@ use Rattle.ffs_volume.specs.declared.tree_lines.DirectoryLine.TheVariants.{DirHo
 use Rattle.ffs_volume.specs.declared.tree_lines.DirectoryLine.TheVariants.{RootNotDir, RootSuspect}
 use Rattle.ffs_volume.specs.declared.tree_lines.ReferenceLine.TheVariants.{DeadMarked, DeadZero, LinkCount, Unref}
 use Rattle.ffs_volume.specs.declared.tree_lines.ReferenceLine.TheVariants.{UnrefDir, UnrefZero}
-use Rattle.ffs_volume.specs.Messages.Kinds.{of_entry, of_dot}
-use Rattle.ffs_volume.specs.Messages.Kinds.{of_directory}
-use Rattle.ffs_volume.specs.Messages.Kinds.{of_reference}
+use Rattle.ffs_volume.specs.Messages.Kinds.{of_entry, of_dot, of_directory, of_reference}
 
 -- the bytes of an entry: its number, length, type and name
 unfoldable pub entry_bytes : Order → (x n kind : ℕ) → List ℕ → List ℕ

@@ -1,16 +1,13 @@
 -- What `owner` prints of a fragment: what it is where it is reserved, else the inodes that keep an offer
 -- of it, else whether the map of its group has it as free.
 use Rattle.std.specs.Prelude.{ℕ, ◌+◌, ◌-◌, ◌*◌, ◌/◌, ◌==◌, ◌&&◌, Bool, List, [], ◌∷◌, ◌++◌, codes, decimal}
-use Rattle.std.specs.Prelude.{if◌then◌else◌, Option, Some, None, nat_le, nat_lt}
-use Rattle.std.specs.{List.{concat, flat_map, list_any}, Int.div_ceil}
-use Rattle.ffs_volume.specs.declared.{constants.TheConstants.DINODE_SIZE, Layout.Layout}
-use Rattle.ffs_volume.specs.declared.Step.{Step, TheVariants.{Run, Tail, Gap}}
-use Rattle.ffs_volume.specs.Disk.Areas.{cgstart, cgsblock, is_reserved}
-use Rattle.ffs_volume.specs.Blocks.{Inodes.inode_of, Steps.steps_of, Owners.inode_numbers}
-use Rattle.ffs_volume.specs.Blocks.Claims.{Claims, at_next_inode, after_step}
-use Rattle.ffs_volume.specs.Blocks.{KeptOffers.kept_in_step, KeptSteps.claims_before}
-use Rattle.ffs_volume.specs.Groups.Records.{group_block}
-use Rattle.ffs_volume.specs.Messages.Texts.{number_text}
+use Rattle.std.specs.{Prelude.{if◌then◌else◌, Option, Some, None, nat_le, nat_lt}, List.{concat, flat_map, list_any}}
+use Rattle.std.specs.Int.{div_ceil}
+use Rattle.ffs_volume.specs.declared.{constants.TheConstants.DINODE_SIZE, Layout.Layout, Step.{Step, TheVariants.Run}}
+use Rattle.ffs_volume.specs.{declared.Step.TheVariants.{Tail, Gap}, Disk.Areas.{cgstart, cgsblock, is_reserved}}
+use Rattle.ffs_volume.specs.Blocks.{Inodes.inode_of, Steps.steps_of, Owners.inode_numbers, Claims.Claims}
+use Rattle.ffs_volume.specs.Blocks.{Claims.{at_next_inode, after_step}, KeptOffers.kept_in_step}
+use Rattle.ffs_volume.specs.{Blocks.KeptSteps.claims_before, Groups.Records.group_block, Messages.Texts.number_text}
 use Rattle.ffs_volume.specs.Find.Lost.{has_map, is_marked_free}
 
 -- the group of a fragment

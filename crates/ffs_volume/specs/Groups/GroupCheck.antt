@@ -1,10 +1,9 @@
 -- The lines of phase 5.
-use Rattle.std.specs.Prelude.{ℕ, Bool, true, false, ◌&&◌, not, List, [], ◌∷◌, ◌++◌, nat_lt, if◌then◌else◌}
-use Rattle.std.specs.{Prelude.ℤ, List.flat_map}
+use Rattle.std.specs.Prelude.{ℕ, Bool, true, false, ◌&&◌, not, List, [], ◌∷◌, ◌++◌, nat_lt, if◌then◌else◌, ℤ}
+use Rattle.std.specs.List.{flat_map}
 use Rattle.ffs_volume.specs.declared.{Layout.Layout, Class.Class, BlockMessage.{BlockMessage, TheVariants.GroupMagic}}
-use Rattle.ffs_volume.specs.declared.BlockMessage.TheVariants.{FreeCounts, MapsWrong, GroupSums}
-use Rattle.ffs_volume.specs.Blocks.{Owners.Owner, Claims.is_set}
-use Rattle.ffs_volume.specs.Blocks.Claims.{no_claims, after_owners}
+use Rattle.ffs_volume.specs.{declared.BlockMessage.TheVariants.{FreeCounts, MapsWrong, GroupSums}, Blocks.Owners.Owner}
+use Rattle.ffs_volume.specs.Blocks.Claims.{is_set, no_claims, after_owners}
 pub use Rattle.ffs_volume.specs.Messages.Kinds.{unless}
 use Rattle.ffs_volume.specs.Groups.Records.{group_block, summary_record, group_numbers, has_right_magic, maps_fit}
 use Rattle.ffs_volume.specs.Groups.Records.{has_right_maps, has_right_sums, has_right_record, has_right_totals}

@@ -1,7 +1,6 @@
-use Rattle.ffs_groups.proofs.Checks.{bits_are}
+use Rattle.ffs_groups.proofs.Checks.{bits_are, sums_as}
 use Rattle.std.proofs.Common.{arith}
 use Rattle.ffs_volume.specs.Groups.Records.{has_right_magic, has_right_record}
-use Rattle.ffs_groups.proofs.Checks.{sums_as}
 use Rattle.ffs_groups.proofs.check.compare_group.Goals as goal
 
 pub returns : goal.returns

@@ -1,7 +1,5 @@
-use Rattle.ffs_volume.proofs.AreaLaws.{copy_inside}
-use Rattle.std.proofs.Common.{arith}
-use Rattle.std.proofs.Common.{◌≡◌, ◌*◌, refl}
-use Rattle.ffs_volume.{specs.Disk.Outcome.copy_place, proofs.Results.fails_with}
+use Rattle.ffs_volume.{proofs.{AreaLaws.copy_inside, Results.fails_with}, specs.Disk.Outcome.copy_place}
+use Rattle.std.proofs.Common.{arith, ◌≡◌, ◌*◌, refl}
 use Rattle.ffs_layout.proofs.superblock.check_copy.Goals as goal
 
 pub returns-in_err-read_superblock_bytes-clause-compared : goal.returns-in_err-read_superblock_bytes-clause-compared

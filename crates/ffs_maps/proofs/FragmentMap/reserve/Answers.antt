@@ -1,7 +1,5 @@
-use Rattle.std.proofs.Common.{◌∙◌, arith, ap, length, sym}
-use Rattle.std.proofs.lemmas.List.FromFn.{length-map-range_with_len}
-use Rattle.ffs_maps.specs.{WordBits.{bits_of_words, set_among}}
-use Rattle.ffs_maps.proofs.ReservedBits.{reserved_all, reserved_ones}
+use Rattle.std.proofs.{Common.{◌∙◌, arith, ap, length, sym}, lemmas.List.FromFn.length-map-range_with_len}
+use Rattle.ffs_maps.{specs.WordBits.{bits_of_words, set_among}, proofs.ReservedBits.{reserved_all, reserved_ones}}
 use Rattle.ffs_maps.proofs.FragmentMap.reserve.Goals as goal
 
 pub invariant_of-self : goal.invariant_of-self

@@ -1,9 +1,7 @@
-use Rattle.ffs_maps.proofs.Masks.{run_outside}
-use Rattle.ffs_maps.proofs.Masks.{run_inside}
+use Rattle.ffs_maps.{proofs.{Masks.{run_outside, run_inside}, Bits.bits_long, ReservedBits.all_set}, specs.Bits.bits_of}
+use Rattle.ffs_maps.proofs.Runs.{bases_end, none_before}
 use Rattle.std.proofs.Common.{◌≡◌, ◌∙◌, arith}
 use Rattle.ffs_volume.specs.Disk.Areas.{cgbase}
-use Rattle.ffs_maps.specs.Bits.{bits_of}
-use Rattle.ffs_maps.proofs.{Bits.bits_long, ReservedBits.all_set, Runs.{bases_end, none_before}}
 use Rattle.ffs_maps.proofs.FragmentMap.set_reserved.Goals as goal
 
 pub loop-group-init : goal.loop-group-init

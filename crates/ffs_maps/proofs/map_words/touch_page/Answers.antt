@@ -1,6 +1,5 @@
 use Rattle.std.proofs.Common.{◌-◌, ◌+◌, ◌%◌, ◌∙◌, arith, ap, refl, sym, vec_len}
-use Rattle.ffs_maps.specs.Words.{reserved_words}
-use Rattle.ffs_maps.proofs.Words.{touched_page, zero_words}
+use Rattle.ffs_maps.{specs.Words.reserved_words, proofs.Words.{touched_page, zero_words}}
 use Rattle.ffs_maps.proofs.map_words.touch_page.Goals as goal
 
 pub returns-in-Some : goal.returns-in-Some

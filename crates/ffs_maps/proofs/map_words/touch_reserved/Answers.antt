@@ -1,10 +1,7 @@
-use Rattle.std.proofs.Common.{append_assoc}
-use Rattle.std.proofs.lemmas.List.FromFn.{map-range_with_len_more}
-use Rattle.std.proofs.Common.{◌-◌, ◌∙◌, ◌++◌, ℕ, arith, ap, length, refl, replicate, sym, vec_len}
-use Rattle.std.proofs.lemmas.{Bool.not-true, List.{length-append, length-replicate}}
+use Rattle.std.proofs.Common.{append_assoc, ◌-◌, ◌∙◌, ◌++◌, ℕ, arith, ap, length, refl, replicate, sym, vec_len}
+use Rattle.std.proofs.lemmas.{List.{FromFn.map-range_with_len_more, length-append, length-replicate}, Bool.not-true}
 use Rattle.std.specs.Prelude.{Some}
-use Rattle.ffs_maps.specs.Words.{reserved_words}
-use Rattle.ffs_maps.proofs.Words.{reserved_on, zeros_of_stretch}
+use Rattle.ffs_maps.{specs.Words.reserved_words, proofs.Words.{reserved_on, zeros_of_stretch}}
 use Rattle.ffs_maps.proofs.map_words.touch_reserved.Goals as goal
 
 pub loop-len-preserved-then-len-next : goal.loop-len-preserved-then-len-next

@@ -1,5 +1,4 @@
-use Rattle.std.{proofs.Common.{◌≡◌, ◌-◌, ◌≤◌, ◌++◌, vec_len}, specs.Prelude.{vec_capacity, Some}}
-use Rattle.std.specs.Vec.{vec_ptr}
+use Rattle.std.{proofs.Common.{◌≡◌, ◌-◌, ◌≤◌, ◌++◌, vec_len}, specs.{Prelude.{vec_capacity, Some}, Vec.vec_ptr}}
 use Rattle.ffs_maps.specs.Words.{reserved_words}
 use Rattle.ffs_maps.proofs.map_words.touch_reserved.Given as goal
 

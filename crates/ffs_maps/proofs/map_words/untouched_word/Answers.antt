@@ -1,6 +1,5 @@
 use Rattle.std.proofs.Common.{ap, sym, ◌∙◌}
-use Rattle.ffs_maps.specs.Words.{reserved_bits}
-use Rattle.ffs_maps.proofs.Words.{no_reserved_bits}
+use Rattle.ffs_maps.{specs.Words.reserved_bits, proofs.Words.no_reserved_bits}
 use Rattle.ffs_maps.proofs.map_words.untouched_word.Goals as goal
 
 pub returns-in-None : goal.returns-in-None

@@ -1,5 +1,4 @@
-use Rattle.std.proofs.Common.{arith}
-use Rattle.std.proofs.Common.{ap, ◌+◌}
+use Rattle.std.proofs.Common.{arith, ap, ◌+◌}
 use Rattle.ffs_maps.proofs.Runs.{first_run, other_run}
 use Rattle.ffs_maps.proofs.reserved.reserved_run.Goals as goal
 

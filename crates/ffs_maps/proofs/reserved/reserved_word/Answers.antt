@@ -1,9 +1,6 @@
 use Rattle.std.proofs.Common.{◌≡◌, ◌-◌, ◌+◌, ◌*◌, ◌≤◌, ◌<◌, ◌∙◌, ◌&&◌, ℕ, Bool, arith, cond, bit_or, inl, inr, ap, sym}
-use Rattle.std.proofs.lemmas.{Bool.{cases_lt}, Nat.Bits.bit_at_or}
-use Rattle.std.specs.{Int.bit_at, Prelude.Some}
-use Rattle.ffs_maps.specs.Reserved.{is_between}
-use Rattle.ffs_maps.proofs.Words.{reserved_from_bits}
-use Rattle.ffs_maps.proofs.Runs.{none_past_size}
+use Rattle.std.{proofs.lemmas.{Bool.cases_lt, Nat.Bits.bit_at_or}, specs.{Int.bit_at, Prelude.Some}}
+use Rattle.ffs_maps.{specs.Reserved.is_between, proofs.{Words.reserved_from_bits, Runs.none_past_size}}
 use Rattle.ffs_maps.proofs.reserved.reserved_word.Goals as goal
 
 -- a stretch has no bits past its end

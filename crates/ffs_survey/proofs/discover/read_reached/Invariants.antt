@@ -1,8 +1,7 @@
 use Rattle.std.proofs.Common.{◌≡◌, ℕ, ◌+◌, ◌<◌, ◌≤◌, ◌^◌, List, length, take, ◌&&◌}
-use Rattle.ffs_survey.specs.Discover.{Extends, from_entries, unset, count_in, any_in}
-use Rattle.ffs_survey.specs.{Lent.{current_in, HasRoomAfter}, Survey.{number_at, bool_at}}
+use Rattle.ffs_survey.specs.{Discover.{Extends, from_entries, unset, count_in, any_in}, Lent.{current_in, HasRoomAfter}}
+use Rattle.ffs_survey.{specs.Survey.{number_at, bool_at}, proofs.{Lending.StillLent, Remaining.{Counts, SameResult}}}
 use Rattle.ffs_volume.specs.Costs.Calm.{are_calm}
-use Rattle.ffs_survey.proofs.{Lending.StillLent, Remaining.{Counts, SameResult}}
 use Rattle.ffs_survey.proofs.discover.read_reached.Given as goal
 
 abbrev pub invariant-loop-entry : goal.invariant-loop-entry

@@ -1,9 +1,7 @@
-use Rattle.std.proofs.Common.{arith}
-use Rattle.std.proofs.Common.{ap, length, rules, ◌∙◌}
+use Rattle.std.proofs.Common.{arith, ap, length, rules, ◌∙◌}
 use Rattle.ffs_survey.proofs.{CalmLaws.{calm_unreached, read_stays, Stays}, Costs.costs_both, Frontiers.sane_of}
 use Rattle.ffs_survey.proofs.{Lending.{finds_same, kinds_long, same_kinds}, UnreachedLaws.survey_whole}
-use Rattle.ffs_survey.proofs.ReadOnce.{flagged_by_parents, read_once_stays}
-use Rattle.ffs_survey.specs.Lent.{all_found}
+use Rattle.ffs_survey.{proofs.ReadOnce.{flagged_by_parents, read_once_stays}, specs.Lent.all_found}
 use Rattle.ffs_survey.proofs.levels.survey_directories.Goals as goal
 
 pub returns-clause-found : goal.returns-clause-found

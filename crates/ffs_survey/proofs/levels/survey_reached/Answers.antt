@@ -1,12 +1,11 @@
-use Rattle.ffs_survey.proofs.Discovered.{set_tests}
-use Rattle.std.proofs.Common.{ℕ, ap, rules, ◌≡◌, ◌+◌, ◌≤◌, length, take, arith, refl, sym, ◌∙◌}
-use Rattle.ffs_survey.proofs.Frontiers.{sane_of, levels_start, frontier_start, queue_start}
-use Rattle.ffs_survey.proofs.Queues.{counted_on, reached_part, alone_part, none_counted, empty_level, is_extended}
-use Rattle.ffs_survey.proofs.{CalmLaws.{calm_none, same_result_stays}, Costs.{level_costs, queue_costs, queue_within}}
-use Rattle.ffs_survey.proofs.{Discovered.{unset-le, unset-set}, Lending.{kinds_long, same_kinds, same_marks}}
-use Rattle.ffs_survey.proofs.{Lending.still_by, NextLevel.{AtLevel, few_counted, level_reached, next_at}}
+use Rattle.ffs_survey.proofs.{Discovered.{set_tests, unset-le, unset-set}, Frontiers.{sane_of, levels_start}}
+use Rattle.ffs_survey.proofs.{Frontiers.{frontier_start, queue_start}, Queues.{counted_on, reached_part, alone_part}}
+use Rattle.ffs_survey.proofs.{Queues.{none_counted, empty_level, is_extended}, CalmLaws.{calm_none, same_result_stays}}
+use Rattle.ffs_survey.proofs.{Costs.{level_costs, queue_costs, queue_within}, Lending.{kinds_long, same_kinds}}
+use Rattle.ffs_survey.proofs.{Lending.{same_marks, still_by}, NextLevel.{AtLevel, few_counted, level_reached, next_at}}
 use Rattle.ffs_survey.{specs.{Discover.Extends, Survey.graph_with}, proofs.Remaining.{counted_same, discovered_same}}
 use Rattle.ffs_survey.proofs.ReadOnce.{read_each, read_on_queue, unread_level}
+use Rattle.std.proofs.Common.{ℕ, ap, rules, ◌≡◌, ◌+◌, ◌≤◌, length, take, arith, refl, sym, ◌∙◌}
 use Rattle.ffs_survey.proofs.levels.survey_reached.Goals as goal
 
 pub loop-low-init : goal.loop-low-init

@@ -1,6 +1,5 @@
 use Rattle.std.proofs.Common.{◌∙◌, ◌∷◌, ◌++◌, ◌==◌, ◌/◌, ◌^◌, [], ap, refl, drop, not, eqb, arith}
-use Rattle.std.proofs.lemmas.Simd.{bitmask_splat, pick_l_whole}
-use Rattle.std.specs.List.{range_with_len}
+use Rattle.std.{proofs.lemmas.Simd.{bitmask_splat, pick_l_whole}, specs.List.range_with_len}
 use lib.Lanes.{pick_l}
 use mir.Syntax.{w32}
 use Rattle.ffs_volume.specs.Blocks.Inodes.{any_nonzero}

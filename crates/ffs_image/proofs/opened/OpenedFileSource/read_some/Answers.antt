@@ -1,5 +1,4 @@
-use Rattle.std.proofs.Common.{◌≡◌, arith, inr, length}
-use Rattle.std.specs.Prelude.{MatchResult}
+use Rattle.std.{proofs.Common.{◌≡◌, arith, inr, length}, specs.Prelude.MatchResult}
 use Rattle.ffs_image.proofs.Retries.{read_failed}
 use Rattle.ffs_image.proofs.opened.OpenedFileSource.read_some.Goals as goal
 

@@ -1,5 +1,4 @@
-use Rattle.std.{proofs.Common.{◌≡◌, ◌-◌, ◌≤◌, ◌++◌, replicate, vec_len}, specs.Prelude.vec_capacity}
-use Rattle.std.specs.Vec.{vec_ptr}
+use Rattle.std.{proofs.Common.{◌≡◌, ◌-◌, ◌≤◌, ◌++◌, replicate, vec_len}, specs.{Prelude.vec_capacity, Vec.vec_ptr}}
 use Rattle.ffs_memory.proofs.word_room.WordRoom.push_zeros.Given as goal
 
 abbrev pub invariant-loop-len : goal.invariant-loop-len

@@ -1,5 +1,4 @@
-use Rattle.std.proofs.Common.{ap}
-use Rattle.std.specs.Vec.{with_item}
+use Rattle.std.{proofs.Common.ap, specs.Vec.with_item}
 use Rattle.ffs_memory.proofs.word_room.WordRoom.set.Goals as goal
 
 pub returns : goal.returns

@@ -1,5 +1,4 @@
-use Rattle.std.proofs.Common.{arith}
-use Rattle.std.proofs.Common.{rules}
+use Rattle.std.proofs.Common.{arith, rules}
 use Rattle.ffs_report.proofs.muted.MutedWriterWrite.write.Goals as goal
 
 pub returns-in-Ok-2 : goal.returns-in-Ok-2

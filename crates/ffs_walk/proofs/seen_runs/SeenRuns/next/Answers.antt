@@ -1,8 +1,7 @@
 use Rattle.std.proofs.Common.{◌≡◌, ◌∙◌, ap, arith, inl, inr, refl, sym, true}
 use Rattle.ffs_volume.{specs.Encodings.Replay.is_replay_open, proofs.Results.fails_with}
-use Rattle.ffs_walk.specs.{Keepings.replay_in}
-use Rattle.ffs_walk.proofs.ReplayedRuns.{closed_runs, gaps_left, none_left, run_left, tail_left}
-use Rattle.ffs_walk.proofs.Splices.{keeps_then}
+use Rattle.ffs_walk.{specs.Keepings.replay_in, proofs.ReplayedRuns.{closed_runs, gaps_left, none_left, run_left}}
+use Rattle.ffs_walk.proofs.{ReplayedRuns.tail_left, Splices.keeps_then}
 use Rattle.ffs_walk.proofs.seen_runs.SeenRuns.next.Goals as goal
 
 pub returns-then-not-is_replay_open : goal.returns-then-not-is_replay_open

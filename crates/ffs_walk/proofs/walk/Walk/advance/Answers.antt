@@ -1,8 +1,7 @@
 use Rattle.ffs_walk.{proofs.WalkSteps.{gives_one, spent_rest}, specs.Rests.{most_at, file_blocks_of}}
-use Rattle.ffs_walk.proofs.{FrameSteps.can_take, GapSteps.{in_first, in_second, in_third}}
-use Rattle.ffs_walk.proofs.Counted.{double_reads, triple_reads}
-use Rattle.std.proofs.{Common.{arith, refl, rules, ◌∙◌, ◌≡◌, false, nat_lt}}
-use Rattle.std.proofs.lemmas.Bool.Decides.{nat_tests}
+use Rattle.ffs_walk.proofs.{FrameSteps.can_take, GapSteps.{in_first, in_second, in_third}, Counted.double_reads}
+use Rattle.ffs_walk.proofs.Counted.{triple_reads}
+use Rattle.std.proofs.{Common.{arith, refl, rules, ◌∙◌, ◌≡◌, false, nat_lt}, lemmas.Bool.Decides.nat_tests}
 use Rattle.ffs_volume.{specs.Blocks.Steps.steps_at, proofs.Results.fails_with}
 use Rattle.ffs_walk.proofs.walk.Walk.advance.Goals as goal
 
