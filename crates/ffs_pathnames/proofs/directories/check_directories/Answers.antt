@@ -6,7 +6,7 @@ use Rattle.ffs_volume.specs.{Directories.Volumes.volume_of, Blocks.Inodes.inodes
 use Rattle.ffs_volume.specs.Costs.DirectoryReads.{directory_cost, noted_directories_cost, is_looked_at}
 use Rattle.ffs_report.proofs.Reporting.{of_begins, of_same, of_part, of_fault, of_reads, said_knows, reports_knowing}
 use Rattle.ffs_report.proofs.Paying.{paid_failed, paid_none, paid_then, paid_within}
-use Rattle.ffs_workspace.proofs.Leaving.{words_leave}
+use Rattle.ffs_workspace.proofs.Leaving.{claims_left, findings_claims, words_leave, survey_left}
 use Rattle.ffs_pathnames.proofs.Findings.{findings_kept, findings_more, findings_noted}
 use Rattle.ffs_pathnames.{specs.Before.{KnowsBeforeNoted, KnowsBefore}, proofs.{Begun.image_same, Carrying.noted_reported}}
 use Rattle.ffs_pathnames.{proofs.Skipping.{noted_before, unseen}, specs.ReadsLeft.KnowsForNext}
@@ -149,7 +149,10 @@ returns-in_err-note_places-clause-tree g c =
           omega (arith, noted.reads.each b (k.gives_bytes, k.block_check, k.survey), places);
       paid = paid_failed (omega (arith, noted.reads.most));
       image = noted.leaves.read;
-      holds = tt;
+      holds = λ b k. (
+        findings_claims v b _ _ (findings_noted _ _ noted.leaves.lists) k.block_check,
+        noted.still b (k.gives_bytes, k.block_check, k.survey),
+      );
       findings = findings_noted _ _ noted.leaves.lists;
       ready = noted.leaves.ready;
     })
@@ -180,7 +183,9 @@ returns-in_err-check_if_needed-clause-tree g c =
           omega (arith, one, long, rise, inv.looks b k checks);
       paid = paid_within (paid_then inv.paid said.paid) (omega arith) (omega arith);
       image = image_same (Unit {0}) (Unit {0}) _ _ _ c.in_err-check_if_needed.field-0.0 inv.device said.leaves.image;
-      holds = tt;
+      holds = λ b k.
+          let now = (inv.before b k).before in
+          (claims_left v b _ _ said.leaves.survey now.block_check, survey_left v b _ _ said.leaves.survey now.survey);
       findings = findings_more _ _ _ inv.findings said.leaves.survey.findings;
       ready = said.leaves.ready;
     })

@@ -103,7 +103,7 @@ returns-in_err-check_directories-in-Go-clause-tree g c =
       paid = paid_fault fault
           (paid_then (paid_said _ c.in_ok-report_root.ensures (omega arith)) tree.paid);
       image = image_same (Unit {0}) Root _ _ _ fault refl tree.image;
-      holds = tt;
+      holds = tree.holds;
       findings = tree.findings;
       ready = tree.ready;
     })

@@ -1,4 +1,4 @@
-use Rattle.std.proofs.Common.{[], ◌∷◌, List, ℕ, refl, ap, ◌∙◌, inr, arith, ◌≡◌, ◌*◌, OnOk, Result, Ok, Err, IfOk, map}
+use Rattle.std.proofs.Common.{[], ◌∷◌, List, ℕ, refl, ap, ◌∙◌, inl, inr, arith, ◌≡◌, ◌*◌, OnOk, Result, Ok, Err, IfOk, map}
 use Rattle.std.proofs.{Common.{sym, true, false}, lemmas.{Bool.both_ways, Result.err_from_is_err_and}}
 use Rattle.ffs_image.specs.{Device.Device, Known.ForBytes}
 use Rattle.ffs_report.proofs.Reporting.{heading_alone, heading_part, heading_reads, of_reads, of_last, reports_knowing}
@@ -33,39 +33,33 @@ before_tree g c b k =
     (calm_silent v b _ c.args.geometry.now.sound found.leaves.ready.made claims (found.survey b k).survey
     (found.survey b k).calm)
 
--- and what of it is held after the last one
-claims_after : (g : Over) (c : After-check_tree g) (b : List ℕ) →
+-- and what is held after the last one
+found_after : (g : Over) (c : After-check_tree g) (b : List ℕ) →
     WithBlockCheck c.args.geometry.now.layout (g.I.Image.device c.args.image.now) c.args.workspace.now b →
-    HoldsBlockCheck c.args.geometry.now.layout b c.check_tree.new.workspace
-claims_after g c b k =
-    let v = c.args.geometry.now.layout in
-    let clear = c.clear_passed_and_windows.ensures in
-    let cleared = claims_left v b _ _ clear.survey (c.in_ok-survey.ensures.survey b k).block_check in
-    findings_claims v b _ _ c.check_tree.ensures.tree.findings cleared
+    HoldsFindings c.args.geometry.now.layout b c.check_tree.new.workspace
+found_after g c b k =
+    let tree = c.check_tree.ensures.tree in
+    let left = tree.holds b (before_tree g c b k) in
+    record {
+      block_check = left.0;
+      survey = left.1;
+      references = references_on c.args.geometry.now.layout b _ _
+          (tree.findings.references ∙ c.clear_passed_and_windows.ensures.survey.findings.references)
+          (c.in_ok-survey.ensures.survey b k).references;
+    }
 
 -- the phase ends as the check of the tree does
 ends_by : (v : Layout) (d d' : Device) (old w new : Workspace) (before after : Progress) (r : Result Root RunFault) →
     ForBytes (WithBlockCheck v d old) (KnowsBefore v d'.contents w 2) →
-    ForBytes (WithBlockCheck v d old) (λ b. HoldsReferences v b new) →
-    ForBytes (WithBlockCheck v d old) (λ b. HoldsBlockCheck v b new) → AnswersRoot v d' w r →
-    OnOk r (ForBytes (KnowsBefore v d'.contents w 2) (λ b. HoldsBlockCheck v b new × HoldsSurvey v b new)) →
+    ForBytes (WithBlockCheck v d old) (λ b. HoldsFindings v b new) → AnswersRoot v d' w r →
     IfOk r (λ root. is_go root ≡ false → SaidStop (WithBlockCheck v d old) (phase2 ∷ [])
     (λ b. phase2 ∷ map of_tree (pathname_lines (volume_of v b))) before after) → Phase2Ends v d old new before after r
-ends_by v d d' old w new before after (Ok root) more references claims answer holds stop = ends root answer stop
-  where
-    found : ForBytes (WithBlockCheck v d old) (λ b. HoldsFindings v b new)
-    found b k =
-        let left = holds b (more b k) in
-        record { block_check = left.0; survey = left.1; references = references b k }
-
-    ends : (root : Root) → AnswersRoot v d' w (Ok root) → (is_go root ≡ false → SaidStop (WithBlockCheck v d old)
-        (phase2 ∷ []) (λ b. phase2 ∷ map of_tree (pathname_lines (volume_of v b))) before after) →
-        Phase2Ends v d old new before after (Ok root)
-    ends Go answer stop = λ b k. (sym (answer b (more b k)), found b k)
-    ends Stop answer stop = (λ b k. (sym (answer b (more b k)), found b k), stop refl)
-ends_by v d d' old w new before after (Err (Read fault)) more references claims answer holds stop =
-    inr (λ b k. answer b (more b k))
-ends_by v d d' old w new before after (Err (Out fault)) more references claims answer holds stop = claims
+ends_by v d d' old w new before after (Ok Go) more found answer stop = λ b k. (sym (answer b (more b k)), found b k)
+ends_by v d d' old w new before after (Ok Stop) more found answer stop =
+    (λ b k. (sym (answer b (more b k)), found b k), stop refl)
+ends_by v d d' old w new before after (Err (Read fault)) more found answer stop =
+    (inr (λ b k. answer b (more b k)), λ e. found)
+ends_by v d d' old w new before after (Err (Out fault)) more found answer stop = λ b k. (found b k).block_check
 
 -- after the heading the root's message is said
 stop_after : (v : Layout) (d d' : Device) (old w : Workspace) (a b c : Progress) (r : Result Root RunFault) →
@@ -92,7 +86,11 @@ pub returns-in_err-say-clause-ends : goal.returns-in_err-say-clause-ends
 returns-in_err-say-clause-ends g c = rw (fails_with _ c.from_residual.ensures.1) (λ b k. k.1)
 
 pub returns-in_err-survey-clause-ends : goal.returns-in_err-survey-clause-ends
-returns-in_err-survey-clause-ends g c = grind arith
+returns-in_err-survey-clause-ends g c =
+    rw (fails_with _ c.from_residual-in_err-survey.ensures.1) (
+      inl c.in_ok-say.ensures.said,
+      λ e. absurd (both_ways c.survey.new.workspace.surveyed c.in_err-survey.ensures.leaves.unsurveyed e),
+    )
 
 pub returns-in_err-survey-clause-text : goal.returns-in_err-survey-clause-text
 returns-in_err-survey-clause-text g c =
@@ -107,16 +105,12 @@ returns-clause-text g c =
 pub returns-clause-ends : goal.returns-clause-ends
 returns-clause-ends g c =
     let v = c.args.geometry.now.layout in
-    let tree = c.check_tree.ensures.tree in
-    ends_by v (g.I.Image.device c.args.image.now) (g.I.Image.device c.survey.new.image) _
-    c.clear_passed_and_windows.new.workspace _ _ _ c.check_tree.result
-    (λ b k. before_tree g (goal.at.returns-clause-ends g c).After-check_tree b k)
-    (λ b k. references_on v b _ _
-    (tree.findings.references ∙ c.clear_passed_and_windows.ensures.survey.findings.references)
-    (c.in_ok-survey.ensures.survey b k).references) (λ b k. claims_after g (goal.at.returns-clause-ends g c).After-check_tree b k) c.check_tree.ensures.root tree.holds
-    (stop_after v (g.I.Image.device c.args.image.now) (g.I.Image.device c.survey.new.image) _
-    c.clear_passed_and_windows.new.workspace _ _ _ c.check_tree.result
-    (λ b k. before_tree g (goal.at.returns-clause-ends g c).After-check_tree b k)
+    let d = g.I.Image.device c.args.image.now in
+    let d' = g.I.Image.device c.survey.new.image in
+    let tree = (goal.at.returns-clause-ends g c).After-check_tree in
+    ends_by v d d' _ c.clear_passed_and_windows.new.workspace _ _ _ c.check_tree.result (before_tree g tree)
+    (found_after g tree) c.check_tree.ensures.root
+    (stop_after v d d' _ c.clear_passed_and_windows.new.workspace _ _ _ c.check_tree.result (before_tree g tree)
     c.in_ok-say.ensures.said c.check_tree.ensures.stop)
 
 -- its heading, of any image
@@ -166,20 +160,6 @@ returns-clause-surveyed g c = λ unmade.
       unmade_before c.args.workspace.now c.survey.new.workspace c.survey.ensures.again first,
       λ b k. absurd (both_ways _ first (c.in_ok-survey.ensures.survey b k).surveyed),
     )
-
--- what is held where something failed
-pub returns-in_err-say-clause-again : goal.returns-in_err-say-clause-again
-returns-in_err-say-clause-again g c =
-    rw (fails_with _ c.from_residual.ensures.1) (λ e b k. k.1)
-
-pub returns-in_err-survey-clause-again : goal.returns-in_err-survey-clause-again
-returns-in_err-survey-clause-again g c =
-    rw (err_from_is_err_and c.from_residual-in_err-survey.result c.from_residual-in_err-survey.ensures.1).1
-    (λ e. absurd (both_ways c.survey.new.workspace.surveyed c.in_err-survey.ensures.leaves.unsurveyed e))
-
-pub returns-clause-again : goal.returns-clause-again
-returns-clause-again g c = at_error c.check_tree.result (λ e b k.
-    claims_after g (goal.at.returns-clause-again g c).After-check_tree b k)
 
 -- how often the image was read
 pub returns-in_err-say-clause-reads : goal.returns-in_err-say-clause-reads
