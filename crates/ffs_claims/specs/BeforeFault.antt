@@ -20,7 +20,7 @@ reads_to_inode v x bytes = div_ceil (x + 1) v.inopb
 -- a read failed for an inode: all messages of those below it were said, and perhaps first ones of its own. No more was
 -- read than the inodes up to it ask for. `all` are the messages of the phase, and `from` those from an inode on
 pub record SaidBelow (knows : List ℕ → Type 0) (v : Layout) (all : List ℕ → List Message)
-    (from : (x : ℕ) → List ℕ → List Message) (old new : PhaseMoment) : Type 0 where
+    (from : ℕ → List ℕ → List Message) (old new : PhaseMoment) : Type 0 where
   pub inode : ℕ
   pub low : inode < inodes_of v
   pub below : List Message

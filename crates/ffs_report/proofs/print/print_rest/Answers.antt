@@ -1,6 +1,6 @@
 use Rattle.std.proofs.{Common.{◌∙◌, ap, arith, length, subst, sym}, lemmas.List.{drop-drop, length-drop}}
 use Rattle.ffs_report.specs.Sink.{GoesAtOnce}
-use Rattle.ffs_report.proofs.Sinks.{goes_on, goes_refused, put_of_rest, put_refused, rest_at, took_more}
+use Rattle.ffs_report.proofs.Sinks.{puts_more, goes_refused, put_of_rest, put_refused, rest_at, took_more}
 use Rattle.ffs_report.proofs.print.print_rest.Goals as goal
 
 pub returns-in_err-at-clause-refused : goal.returns-in_err-at-clause-refused
@@ -25,6 +25,6 @@ loop-at-preserved g c =
     record {
       within = omega (arith, puts.some.1, ap length (rest_at bytes at) ∙ long);
       took = took_more _ _ _ bytes at n c.loop-at.invariant.took puts.ok;
-      goes = λ new q. c.loop-at.invariant.goes new (goes_on g.W.Output.was_put _ _ _
+      goes = λ new q. c.loop-at.invariant.goes new (puts_more g.W.Output.was_put _ _ _
           (omega (arith, long, c.loop-at-test.true)) new n put (subst (GoesAtOnce _ _ new) (sym (drop-drop n at bytes)) q));
     }
