@@ -112,7 +112,10 @@ fn look_directory_unlimited<I: Image>(
         (KnowsNoted geometry.now.layout (I.device image.old).contents workspace.old dir)
         (λ b. I.reads image.new ≤ I.reads image.old + directory_cost geometry.now.layout b dir) }
 {
-    let inode = workspace.windows.table.inode_by_piece(geometry, dir, image)?;
+    let inode = workspace
+        .windows
+        .table
+        .inode_by_piece(geometry, dir, image)?;
     let directory = Directory { number: dir, inode };
     let chunks = look_chunks(geometry, image, workspace, &directory, start)?;
     Ok(FirstLook { inode, chunks })

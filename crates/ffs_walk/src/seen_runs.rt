@@ -62,11 +62,7 @@ impl SeenRuns {
                 Step::Run { start, len, block } => {
                     let in_range = self.walk.geometry.in_range(start, len);
                     let kept = self.keeping.take(len, in_range);
-                    return Ok(Some(SeenRun {
-                        start,
-                        kept,
-                        block,
-                    }));
+                    return Ok(Some(SeenRun { start, kept, block }));
                 }
                 Step::Gap => {
                     self.walk.skip_gaps(blocks);
