@@ -107,7 +107,7 @@ fn fragment_map(wrong: Number, alloc: Global) -> Result<(u32, bool), Fail> {
     let geometry = geometry(Order::Little)?;
     let used = used_by_root(alloc)?;
     let (_, block) = records([0; 4], wrong);
-    let right = same_fragment_map(&geometry, &used, 0, &block, 172);
+    let right = geometry.layout.fpg == 128 && same_fragment_map(&geometry, &used, 0, &block, 172);
     Ok((group_fragments(&geometry, 0), right))
 }
 

@@ -291,7 +291,8 @@ fn numbers_of_a_list(rt: HostRuntime) -> Result<(), AllocError> {
 
 #[test]
 fn plain_roles(rt: HostRuntime) {
-    let roles = [Role::Empty, Role::Dot, Role::Dotdot, Role::Extra];
-    same(&rt, &roles.map(is_plain), &[false; 4]);
+    for role in [Role::Empty, Role::Dot, Role::Dotdot, Role::Extra] {
+        same(&rt, &is_plain(role), &false);
+    }
     same(&rt, &is_plain(Role::Plain), &true);
 }

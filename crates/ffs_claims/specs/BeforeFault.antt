@@ -1,4 +1,4 @@
--- What phases 1 and 1b have said where a read failed: all messages of the inodes below one.
+-- What phases 1 and 1b have said where a read failed: there is an inode, and all messages of those below it were said.
 use Rattle.std.specs.{Int.div_ceil, Prelude.{◌≡◌, ℕ, ◌+◌, ◌-◌, ◌<◌, ◌≤◌, Bool, List, ◌++◌}}
 use Rattle.ffs_volume.specs.Blocks.{BlockCheck.{first_offer_lines, lines_of_owners}, Inodes.inodes_of}
 use Rattle.ffs_volume.specs.Blocks.{KeptOffers.kept_in_owners, KeptSteps.claims_before}
@@ -17,8 +17,9 @@ abbrev pub reads_to_inode : Layout → (x : ℕ) → List ℕ → ℕ
 reads_to_inode v x bytes = div_ceil (x + 1) v.inopb
     + (indirect_count v bytes - indirect_in_owners v (claims_before v bytes (x + 1)) (owners_from v bytes (x + 1)))
 
--- a read failed for an inode: all messages of those below it were said, and perhaps first ones of its own. No more was
--- read than the inodes up to it ask for. `all` are the messages of the phase, and `from` those from an inode on
+-- a read failed for an inode: all messages of those below it were said, and perhaps first ones of its own (that they
+-- are its own, the clause `text` says). No more was read than the inodes up to it ask for. `all` are the messages of the
+-- phase, and `from` those from an inode on
 pub record SaidBelow (knows : List ℕ → Type 0) (v : Layout) (all : List ℕ → List Message)
     (from : ℕ → List ℕ → List Message) (old new : PhaseMoment) : Type 0 where
   pub inode : ℕ
@@ -43,7 +44,8 @@ abbrev pub dups_from_inode : (left : List Bool) → Layout → (x : ℕ) → Lis
 dups_from_inode left v x bytes =
     of_lines (first_offer_lines left (kept_in_owners v (claims_before v bytes x) (owners_from v bytes x)))
 
--- a read failed in phase 1b
+-- a read failed in phase 1b. `left` may be any: a line from an inode on names none below it, so the lines of those are
+-- all among the messages below
 pub record DupsSaidBelow (v : Layout) (old new : PhaseMoment) : Type 0 where
   pub left : List Bool
   pub below : SaidBelow (WithNotes v old.image old.workspace) v

@@ -33,7 +33,7 @@ pub record CanClaim (v : Layout) (d : Device) (w : Workspace) (area : DataArea) 
   pub ready : CanRead v d w
   pub all_in_range : IsDataArea v area
 
--- an inode can claim in a sweep: its number is one of the volume, the walk is over the volume, and the Runs
+-- an inode can claim in a scan: its number is one of the volume, the walk is over the volume, and the Runs
 -- counted so far leave room for its own
 pub record CanClaimInode (g : Geometry) (d : Device) (w : Workspace) (scan : Scan) (number : ℕ) : Type 0 where
   pub claim : CanClaim g.layout d w scan.area

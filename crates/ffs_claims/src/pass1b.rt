@@ -122,7 +122,7 @@ fn phase1b_unlimited<I: Image, W: Output>(
 /// kept offer reported: by a DUP line for the first inode that keeps an offer of it.
 ///
 /// The contract gives the text for a workspace as phase 1 left it, and after a fault once more:
-/// what is left is reported then. No more reads are made than those of a scan (`sweep_reads`).
+/// what is left is reported then. No more reads are made than those of a sweep (`sweep_reads`).
 ///
 /// # Errors
 /// A read of the image that failed, and a write of the report that failed.
@@ -161,8 +161,8 @@ pub fn phase1b<I: Image, W: Output>(
         workspace.new (I.reads image.old) (I.reads image.new) }
     ensures stays { Phase1bKeeps workspace.old workspace.new }
 
-    // Where a read failed, all messages of the inodes below one were said, and no more was read
-    // than these inodes and that one ask for.
+    // Where a read failed, there is an inode such that all messages of those below it were said,
+    // and no more was read than the inodes up to it ask for.
     ensures before_fault { FailsIn (λ sector. DupsSaidBelow geometry.now.layout
         (phase_moment I.Image W.Output image.old workspace.old report.old)
         (phase_moment I.Image W.Output image.new workspace.new report.new)) result }

@@ -1,4 +1,4 @@
--- What phase 3 has said where a read failed: just what is due before a directory of its sector.
+-- What phase 3 has said where a read failed: just what comes before the lines of a directory of its sector.
 use Rattle.std.specs.Prelude.{◌≡◌, ℕ, ◌<◌, List, [], ◌∷◌, true, map}
 use Rattle.ffs_image.specs.Known.{ForBytes}
 use Rattle.ffs_report.specs.{PhaseOutcome.SaidOf, Progress.Progress}

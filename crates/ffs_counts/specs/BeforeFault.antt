@@ -1,4 +1,5 @@
--- What phases 4 and 5 have said where a read failed: just what is due before an inode, or a group, of its sector.
+-- What phases 4 and 5 have said where a read failed: just what comes before the lines of an inode, or of a group, of
+-- its sector.
 use Rattle.std.specs.{Prelude.{ℕ, ◌<◌, List, [], ◌∷◌, map}, List.{flat_map, range_with_len}}
 use Rattle.ffs_volume.specs.{declared.{BlockMessage.BlockMessage, Layout.Layout}, Blocks.Owners.owners_of}
 use Rattle.ffs_volume.specs.Blocks.Inodes.{inodes_of}

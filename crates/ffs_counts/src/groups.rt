@@ -17,6 +17,7 @@ const RECORDS_AT_ONCE: u32 = 256;
 const RECORD_SIZE: usize = CSUM_SIZE as usize;
 
 /// Reads the summary record of a group with those round it: 256 records, or those that are left.
+/// The window of the inode table, which phase 5 doesn't read, takes them.
 /// Where the window has these bytes already, nothing is read (`Window::fill`). Returns where the
 /// group's record begins in the window, in bytes.
 fn read_summaries<I: Image>(

@@ -238,8 +238,8 @@ pub fn phase4<I: Image, W: Output>(
     // A read that failed is of a block of the inode table.
     ensures sector { FailsIn (IsTableSector geometry.now.layout) result }
 
-    // Where the bytes are known, just the messages were said that are due before an inode of that
-    // block.
+    // Where the bytes are known, just the messages were said that come before those of an inode of
+    // that block.
     ensures before_fault { FailsIn (SaidBeforeInode
         (WithFindings geometry.now.layout (I.device image.old) workspace.old) geometry.now.layout
         (progress W.sink report.old) (progress W.sink report.new)) result }

@@ -48,7 +48,7 @@ pub fn phase5<I: Image, W: Output>(
     // A read that failed is of the block of a group, or of summary records.
     ensures sector { FailsIn (IsGroupSector superblock.now.geometry.layout) result }
 
-    // Where the bytes are known, just the messages were said that are due before a group whose
+    // Where the bytes are known, just the messages were said that come before those of a group whose
     // block or summary record is in that sector.
     ensures before_fault { FailsIn (SaidBeforeGroup
         (WithBlockCheck superblock.now.geometry.layout (I.device image.old) workspace.old)

@@ -72,10 +72,10 @@ name_is : (vol : Volume) (s : CurrentDir) (parents : List ℕ) (reached : ℕ �
     Shown vol s.kinds s.marked parents → names_calm s reached e ≡ true → IsCalmName vol e
 name_is vol s parents reached e sh c = grind (arith, nat_tests, and_parts, not_suspect, right_type)
 
--- so the verdict on it is silent, whatever is flagged
 calm_kind : (unknown right : Bool) → (unknown ≡ false → right ≡ true) → (not unknown && not right) ≡ false
 calm_kind unknown right h = grind (arith, nat_tests)
 
+-- so the verdict on it is silent, whatever is flagged
 plain_silent : (vol : Volume) (s : CurrentDir) (parents : List ℕ) (flags : List Bool) (stamps : List ℕ)
     (reached : ℕ → Bool) (e : Entry) →
     Shown vol s.kinds s.marked parents → is_calm_plain s.kinds s.marked reached e.number e.kind ≡ true

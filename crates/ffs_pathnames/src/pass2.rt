@@ -53,9 +53,9 @@ pub enum Root {
 /// (`stopped`).
 ///
 /// # Errors
-/// A read of the image that failed, and a write of the report that failed. Where it was a write, or
-/// the workspace says `surveyed` then, phase 2 can be called again: all that it needs is held
-/// still; and where it was a read, so can phases 3 and 4 (`ends`).
+/// A read of the image that failed, and a write of the report that failed. After a write phase 2
+/// can be called again: all that it needs is held still. After a read phases 2, 3 and 4 can, where
+/// the workspace says `surveyed` (`ends`); where it doesn't, the counts of references are between.
 pub fn phase2<I: Image, W: Output>(
     geometry: &Geometry,
     image: &mut I,

@@ -143,8 +143,8 @@ pub fn verdict_at_look(
     verdict(inodes, entry, first_naming, parent_entry)
 }
 
-/// True only where a plain entry is a whiteout; or it has the type of the file that it names, and that file
-/// isn't marked, or an entry has named it already. Nothing is reported of such an entry, in
+/// True only where a plain entry is a whiteout, or has the type of the file that it names, and that
+/// file is either unmarked or named already by an entry before. Nothing is reported of such an entry, in
 /// whichever directory it is. Most entries are so.
 pub fn is_harmless(inodes: &Inodes<'_>, flags: &FilledList<bool>, entry: &Entry<'_>) -> bool
     requires { vec_len flags.now ≡ length inodes.now.kinds.now }
