@@ -331,104 +331,80 @@ fn sizes_at_edges(rt: HostRuntime) -> Result<(), Fail> {
     Ok(())
 }
 
-/// The addresses of an inode that are passed without steps, each with how many fragments its block
-/// has; whether an address was left before, and whether one is left after them.
-fn directs(mut walk: Walk, alloc: Global) -> Result<(Vec<(u32, u32)>, [bool; 2]), AllocError>
+/// The next address of an inode, where it is direct, and how many fragments its block has. It is
+/// passed without a step.
+fn pass_address(walk: &mut Walk) -> Option<(u32, u32)>
+    requires { IsAtTop walk.old }
+    ensures { IsAtTop walk.new }
+{
+    if !walk.has_direct() {
+        return None;
+    }
+    let found = walk.next_direct();
+    walk.pass_direct();
+    Some(found)
+}
+
+/// The first two of these, and whether an address was left before them, and is after them.
+type Directs = ([Option<(u32, u32)>; 2], [bool; 2]);
+
+fn two_directs(mut walk: Walk) -> Directs
     requires { IsAtTop walk }
 {
     let before = walk.has_address();
-    let mut found = Vec::new(alloc);
-    while walk.has_direct() {
-        found.push(walk.next_direct())?;
-        walk.pass_direct();
-    }
-    Ok((found, [before, walk.has_address()]))
+    let first = pass_address(&mut walk);
+    let second = pass_address(&mut walk);
+    ([first, second], [before, walk.has_address()])
+}
+
+/// The same of a file, by a walk that was begun anew over it, and of a larger one.
+fn directs_of(file: &Inode, large: &Inode) -> Result<[Directs; 3], Fail> {
+    let geometry = geometry(Order::Little)?;
+    let of_class = Walk::of_class(&geometry, large, Class::File);
+    let mut restarted = of_class;
+    restarted.restart(file, Class::File);
+    Ok([
+        two_directs(Walk::start(&geometry, file)),
+        two_directs(restarted),
+        two_directs(of_class),
+    ])
 }
 
 #[test]
 fn direct_addresses(rt: HostRuntime) -> Result<(), Fail> {
-    let geometry = geometry(Order::Little)?;
     let file = inode_with(0o100644, 4097, &[40, 44]);
     let large = inode_with(0o100644, 53248, &INDIRECT);
-    let mut restarted = Walk::of_class(&geometry, &large, Class::File);
-    let (found, left) = directs(restarted, rt.alloc())?;
-    same(&rt, &(found.len(), left), &(12, [true, true]));
-    restarted.restart(&file, Class::File);
-    for walk in [Walk::start(&geometry, &file), restarted] {
-        let (found, left) = directs(walk, rt.alloc())?;
-        same(&rt, &found.as_slice(), &[(40, 4), (44, 1)].as_slice());
-        same(&rt, &left, &[true, false]);
-    }
+    let whole = ([Some((40, 4)), Some((44, 1))], [true, false]);
+    let part = ([Some((0, 4)), Some((0, 4))], [true, true]);
+    same(&rt, &directs_of(&file, &large)?, &[whole, whole, part]);
     Ok(())
 }
 
-/// Four blocks after the direct ones, of which the second is a hole.
-const FOUR_WORDS: [Number; 3] = [word!(40, 0, 44), word!(40, 2, 48), word!(40, 3, 52)];
-
-/// The addresses in the words of an indirect block that are passed without steps, after the step of
-/// its first word.
-fn words_after_first<I: Image>(
-    geometry: &Geometry,
-    inode: &Inode,
-    image: &mut I,
-    blocks: &mut Blocks,
-) -> Result<[Option<u32>; 4], ImageFault>
-    requires { CanWalk geometry.now.layout (I.device image.old) blocks.old }
-{
-    let mut walk = Walk::start(geometry, inode);
-    let mut found = [None; 4];
-    while !walk.is_in_held_block(blocks) {
-        if walk.next(image, blocks)?.is_none() {
-            return Ok(found);
-        }
+/// The offers of a Run that are kept, if the Run is seen.
+fn take_if_open(keeping: &mut Keeping, len: u32, in_range: bool) -> Option<u32> {
+    if keeping.is_replay_open() {
+        Some(keeping.take(len, in_range))
+    } else {
+        None
     }
-    for address in &mut found {
-        if walk.has_word() {
-            *address = Some(walk.next_address(walk.geometry.layout.order, blocks));
-            walk.pass_word();
-        }
-    }
-    Ok(found)
-}
-
-/// The same of a volume with those words.
-fn words_of_file(order: Order, alloc: Global) -> Result<[Option<u32>; 4], Fail> {
-    let geometry = geometry(order)?;
-    let file = inode_with(0o100644, 4096 * 16, &INDIRECT);
-    let mut image = image_of(order, &FOUR_WORDS, alloc)?;
-    let mut blocks = empty_blocks(&geometry, alloc)?;
-    let found = words_after_first(&geometry, &file, &mut image, &mut blocks);
-    drop(blocks);
-    Ok(found?)
-}
-
-#[test]
-fn words_without_steps(rt: HostRuntime) -> Result<(), Fail> {
-    for order in ORDERS {
-        let found = words_of_file(order, rt.alloc())?;
-        same(&rt, &found, &[Some(0), Some(48), Some(52), None]);
-    }
-    Ok(())
 }
 
 /// An inode is cut by its eleventh bad Run, and by as many kept offers as its cut says.
 #[test]
 fn cut_inodes(rt: HostRuntime) {
     let mut bad = Keeping::start(0);
-    let mut runs = 0;
-    while bad.is_replay_open() && runs < 20 {
-        bad.take(1, false);
-        runs += 1;
-    }
-    same(&rt, &runs, &11);
-    let mut cut = Keeping::start(6);
-    let mut taken = [9; 3];
-    for place in 0..3 {
-        if cut.is_replay_open() {
-            taken[place] = cut.take(4, true);
+    let mut seen = 0u32;
+    for _ in 0..20 {
+        if take_if_open(&mut bad, 1, false).is_some() {
+            seen = seen.saturating_add(1);
         }
     }
-    same(&rt, &taken, &[4, 2, 9]);
+    same(&rt, &seen, &11);
+    let mut cut = Keeping::start(6);
+    let first = take_if_open(&mut cut, 4, true);
+    let second = take_if_open(&mut cut, 4, true);
+    let third = take_if_open(&mut cut, 4, true);
+    same(&rt, &[first, second, third], &[Some(4), Some(2), None]);
 }
 
 #[test]
