@@ -1,18 +1,17 @@
 //! A survey that is made again, also by phase 2: references are counted once.
 
 ghost use Rattle.std.specs.Prelude.{◌*◌, ◌≤◌};
-ghost use Rattle.ffs_paths.specs.Reads.{CanReadFor};
 ghost use Rattle.ffs_workspace.specs.Ready.{IsReady};
 ghost use Rattle.ffs_volume.specs.Disk.Areas.{FitsIn};
 
 use crate::compare::same;
 use ffs_claims::phase1;
 use ffs_counts::phase4;
-use ffs_image::{Image, ImageFault};
+use ffs_image::Image;
 use ffs_layout::{Geometry, Order};
 use ffs_names::survey;
 use ffs_pathnames::phase2;
-use ffs_paths::{KeptParent, PathText, directory_path, path_of};
+use ffs_paths::{PathText, path_of};
 use ffs_report::{Counted, Output, Report, RunFault};
 use ffs_samples::{Number, geometry, image_of};
 use ffs_workspace::Workspace;
@@ -51,36 +50,13 @@ static NUMBERS: [Number; 26] = [
     (37910, 1, 0),
 ];
 
-/// The path of a directory, and that of its entry `b`: each time for itself, and then by what is
-/// kept of a parent.
-type Paths = [PathText; 4];
-
-/// Writes these of inode 3.
-fn write_paths<I: Image>(
-    geometry: &Geometry,
-    image: &mut I,
-    workspace: &mut Workspace,
-    paths: &mut Paths,
-) -> Result<(), ImageFault>
-    requires { CanReadFor geometry.now.layout (I.device image.old) workspace.old 3 }
-{
-    let [path, entry, kept_path, kept_entry] = paths;
-    path_of(geometry, image, workspace, 3, None, path)?;
-    directory_path(geometry, image, workspace, 3)?.put_entry(b"b", entry);
-    let mut kept = KeptParent::none();
-    kept.put_path(geometry, image, workspace, 3, kept_path)?;
-    kept.path_to(geometry, image, workspace, 3)?
-        .put_entry(b"b", kept_entry);
-    Ok(())
-}
-
-/// Phase 1, two surveys, phase 2, the paths of a directory, and phase 4 before and after another
+/// Phase 1, two surveys, phase 2, the path of a directory, and phase 4 before and after another
 /// survey.
 fn check_twice<I: Image, W: Output>(
     geometry: &Geometry,
     image: &mut I,
     workspace: &mut Workspace,
-    paths: &mut Paths,
+    path: &mut PathText,
     report: &mut Report<'_, W>,
 ) -> Result<(), RunFault>
     requires { IsReady geometry.now.layout (I.device image.old) workspace.old }
@@ -93,7 +69,7 @@ fn check_twice<I: Image, W: Output>(
         return Ok(());
     }
     workspace.forget_windows();
-    write_paths(geometry, image, workspace, paths)?;
+    path_of(geometry, image, workspace, 3, None, path)?;
     phase4(geometry, image, workspace, report)?;
     survey(geometry, image, workspace)?;
     phase4(geometry, image, workspace, report)
@@ -104,7 +80,7 @@ fn printed<I: Image>(
     geometry: &Geometry,
     image: &mut I,
     workspace: &mut Workspace,
-    paths: &mut Paths,
+    path: &mut PathText,
     alloc: Global,
 ) -> (Result<(), RunFault>, Vec<u8>)
     requires { IsReady geometry.now.layout (I.device image.old) workspace.old }
@@ -112,40 +88,32 @@ fn printed<I: Image>(
     let mut text = Vec::new(alloc);
     let mut out = Counted::new(&mut text);
     let mut report = Report::new(&mut out);
-    let end = check_twice(geometry, image, workspace, paths, &mut report);
+    let end = check_twice(geometry, image, workspace, path, &mut report);
     (end, text)
 }
 
-/// The same of an image, with the paths.
+/// The same of an image, with the path.
 fn checked<I: Image>(
     geometry: &Geometry,
     image: &mut I,
     alloc: Global,
-) -> Result<(Vec<u8>, Paths), Fail>
+) -> Result<(Vec<u8>, PathText), Fail>
     requires { FitsIn geometry.now.layout (I.device image.old).size }
 {
-    let mut paths = [
-        PathText::new(),
-        PathText::new(),
-        PathText::new(),
-        PathText::new(),
-    ];
+    let mut path = PathText::new();
     let mut workspace = Workspace::new(alloc, geometry)?;
-    let (end, text) = printed(geometry, image, &mut workspace, &mut paths, alloc);
+    let (end, text) = printed(geometry, image, &mut workspace, &mut path, alloc);
     drop(workspace);
     end?;
-    Ok((text, paths))
+    Ok((text, path))
 }
 
 #[test]
 fn counts_references_once(rt: HostRuntime) -> Result<(), Fail> {
     let geometry = geometry(Order::Little)?;
     let mut image = image_of(Order::Little, &NUMBERS, rt.alloc())?;
-    let (text, paths) = checked(&geometry, &mut image, rt.alloc())?;
-    let wanted: [&[u8]; 4] = [b"/a", b"/a/b", b"/a", b"/a/b"];
-    for (path, wanted) in paths.iter().zip(&wanted) {
-        same(&rt, &path.as_slice(), wanted);
-    }
+    let (text, path) = checked(&geometry, &mut image, rt.alloc())?;
+    same(&rt, &path.as_slice(), &b"/a".as_slice());
     same(
         &rt,
         &text.as_slice(),

@@ -1,8 +1,8 @@
 use Rattle.std.proofs.Common.{arith}
 use Rattle.ffs_tests.proofs.surveys.check_twice.Goals as goal
 
-pub write_paths-requires : goal.write_paths-requires
-write_paths-requires g c = record {
+pub path_of-requires : goal.path_of-requires
+path_of-requires g c = record {
   ready = c.forget_windows.ensures.forgets c.args.geometry.now.layout _ c.in_ok-phase2.ensures.ready;
   number = omega arith;
 }
