@@ -132,20 +132,22 @@ def mend_link(case, i, *paths):
         raise Wrong(f"the checks end with {found}")
 
 
+def link_without_file(case, number, message):
+    """Gives one of a file's two names the number of no file, of which the report has this message, and mends it."""
+    set_number(case, "mail/report_too", number)
+    case.at_stake("docs/report", "mail/report_too")
+    report = case.report(message, "LINK COUNT")
+    mend_link(case, report.first("LINK COUNT")["inode"], report.first(message)["path"])
+
+
 @damage("the number of one of a file's two names is none of the volume's")
 def link_number_out_of_range(case):
-    set_number(case, "mail/report_too", 99999)
-    case.at_stake("docs/report", "mail/report_too")
-    report = case.report("I OUT OF RANGE", "LINK COUNT")
-    mend_link(case, report.first("LINK COUNT")["inode"], report.first("I OUT OF RANGE")["path"])
+    link_without_file(case, 99999, "I OUT OF RANGE")
 
 
 @damage("the number of one of a file's two names became that of a free inode")
 def link_number_unallocated(case):
-    set_number(case, "mail/report_too", 900)
-    case.at_stake("docs/report", "mail/report_too")
-    report = case.report("UNALLOCATED", "LINK COUNT")
-    mend_link(case, report.first("LINK COUNT")["inode"], report.first("UNALLOCATED")["path"])
+    link_without_file(case, 900, "UNALLOCATED")
 
 
 @damage("the number of one of a file's two names became that of another file")
