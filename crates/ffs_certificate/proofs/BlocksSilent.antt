@@ -10,7 +10,7 @@ use Rattle.ffs_volume.specs.Blocks.{BlockCheck.phase1b_lines, Claims.{is_set, re
 use Rattle.ffs_volume.specs.{Blocks.{Owners.{fragments_of, all_steps}, KeptOffers.Offer}, Consistent.BlocksRight.times}
 use Rattle.ffs_volume.specs.{Consistent.BlocksRight.{is_step_in_range, BlocksRight}, Disk.Areas.is_fragment_in_range}
 use Rattle.ffs_volume.{specs.Disk.Areas.is_reserved, proofs.Flags.unset}
-use Rattle.ffs_certificate.proofs.BlockLaws.{mark, fresh, is_nil, nil_append, run_ok, owners_say, owners_claim, Quiet}
+use Rattle.ffs_certificate.proofs.BlockLaws.{claim, are_unclaimed, is_nil, nil_append, run_ok, owners_say, owners_claim, Quiet}
 use Rattle.ffs_certificate.proofs.BlockLaws.{owners_parts, owners_from}
 
 abbrev pub bit : Bool → ℕ
@@ -34,7 +34,7 @@ are_below n fs = list_all (λ f. nat_lt f n) fs
 bit_small : (b : Bool) → bit b ≤ 1
 bit_small b = grind arith
 
-pub fresh_new : (used : List Bool) (fs : List ℕ) → are_below (length used) fs ≡ true → fresh used fs ≡ true →
+pub fresh_new : (used : List Bool) (fs : List ℕ) → are_below (length used) fs ≡ true → are_unclaimed used fs ≡ true →
     IsNew used fs
 fresh_new used [] below e = λ f. omega (arith, bit_small (is_set used f))
 fresh_new used (g ∷ fs) below e =
@@ -43,7 +43,7 @@ fresh_new used (g ∷ fs) below e =
     omega (arith, rest f, times_cons f g fs)
 
 pub new_fresh : (used : List Bool) (fs : List ℕ) → are_below (length used) fs ≡ true → IsNew used fs →
-    fresh used fs ≡ true
+    are_unclaimed used fs ≡ true
 new_fresh used [] below new = refl
 new_fresh used (g ∷ fs) below new =
     let a = and_parts (nat_lt g (length used)) (are_below (length used) fs) below in
@@ -54,8 +54,8 @@ new_fresh used (g ∷ fs) below new =
     rw free rest
 
 -- after the marks of new numbers
-pub marked_bit : (used : List Bool) (fs : List ℕ) → are_below (length used) fs ≡ true → fresh used fs ≡ true → (f : ℕ) →
-    bit (is_set (mark used fs) f) ≡ times f fs + bit (is_set used f)
+pub marked_bit : (used : List Bool) (fs : List ℕ) → are_below (length used) fs ≡ true → are_unclaimed used fs ≡ true → (f : ℕ) →
+    bit (is_set (claim used fs) f) ≡ times f fs + bit (is_set used f)
 marked_bit used [] below e f = omega arith
 marked_bit used (g ∷ fs) below e f =
     let rest = marked_bit (slice_set used g true) fs (grind (arith, length-set)) (grind arith) f in

@@ -10,27 +10,27 @@ use Rattle.ffs_volume.specs.Directories.Volumes.{class_at, marked_at, steps_of_i
 use Rattle.ffs_volume.specs.Directories.{Volumes.{volume_of, whole_volume}, Roles.roled_entries}
 use Rattle.ffs_volume.specs.{Consistent.BlocksRight.{is_right_class, BlocksRight}, Laws.Geometry.IsAcceptedLayout}
 use Rattle.ffs_volume.proofs.Sizes.{no_steps}
-use Rattle.ffs_certificate.{specs.Premises.{IsVolume, IsUnmarked}, proofs.BlockLaws.{Calm, calm_open, steps_quiet}}
-use Rattle.ffs_certificate.proofs.BlockLaws.{step_claims, owner_quiet, owners_quiet, owner_claims, owners_from}
+use Rattle.ffs_certificate.{specs.Premises.{IsVolume, IsUnmarked}, proofs.BlockLaws.{NothingReported, unreported_open, are_steps_silent}}
+use Rattle.ffs_certificate.proofs.BlockLaws.{step_claims, is_owner_silent, are_owners_silent, owner_claims, owners_from}
 use Rattle.ffs_certificate.proofs.{BlocksSilent.{right_quiet, blocks_silent}, GroupLaws.all_at}
 
-steps_kept_quiet : (v : Layout) (s : Claims) (steps : List Step) → Calm s → steps_quiet v s.used steps ≡ true →
+steps_kept_quiet : (v : Layout) (s : Claims) (steps : List Step) → NothingReported s → are_steps_silent v s.used steps ≡ true →
     kept_steps v s steps ≡ steps
 steps_kept_quiet v s [] c e = refl
 steps_kept_quiet v s (step ∷ steps) c e =
-    let rest = steps_kept_quiet v (after_step v s step) steps in grind (arith, step_claims, calm_open, length-range_with_len)
+    let rest = steps_kept_quiet v (after_step v s step) steps in grind (arith, step_claims, unreported_open, length-range_with_len)
 
 kept_at : (v : Layout) (image : List ℕ) (s : Claims) (a k d x : ℕ) → a + d ≡ x → d < k →
-    owners_quiet v s.used (map (owner_of v image) (range_with_len a k)) ≡ true →
+    are_owners_silent v s.used (map (owner_of v image) (range_with_len a k)) ≡ true →
     kept_steps v (at_next_inode (after_owners v s (map (owner_of v image) (range_with_len a d))))
     (steps_of v (inode_of v image x) image) ≡ steps_of v (inode_of v image x) image
 unfolding owner_of
 kept_at v image s a zero d x e lt q = absurd (omega arith)
 kept_at v image s a (suc k) zero x e lt q = grind (arith, steps_kept_quiet)
 kept_at v image s a (suc k) (suc d) x e lt q =
-    let parts = and_parts (owner_quiet v s.used (owner_of v image a)) _ q in
+    let parts = and_parts (is_owner_silent v s.used (owner_of v image a)) _ q in
     kept_at v image (after_owner v s (owner_of v image a)) (a + 1) k d x (omega (arith, e)) (omega arith)
-    (ap (λ u. owners_quiet v u (map (owner_of v image) (range_with_len (a + 1) k)))
+    (ap (λ u. are_owners_silent v u (map (owner_of v image) (range_with_len (a + 1) k)))
     (owner_claims v s (owner_of v image a) parts.0).used ∙ parts.1)
 
 -- each step of each inode is kept

@@ -6,7 +6,7 @@ use Rattle.ffs_volume.specs.declared.{SuperFault.{SuperFault, TheVariants.Magic}
 use Rattle.ffs_volume.specs.{Disk.{Superblock.Superblock, Outcome.outcome}, Messages.Kinds.{Message, has_defect}}
 use Rattle.ffs_volume.specs.Report.Opening.{fault_line, found_lines, head_lines, opening_lines, super_lines}
 use Rattle.ffs_report.{specs.{Progress.{Progress, Said, Stopped}, Sink.Sink}, proofs.Reports.{said_then, stopped_after}}
-use Rattle.ffs_layout.specs.{declared.superblock.Super.Super, Super.{ReadsSuper, superblock_in}}
+use Rattle.ffs_layout.specs.{declared.superblock.Super.Super, Super.{ReadsSuper, may_read_copy, superblock_in}}
 use Rattle.ffs_check.specs.{Moment.Moment, Opening.{IsWorkingAfter, OpeningOf, Opens}}
 use Rattle.ffs_check.proofs.EndLaws.{broke_more, broke_off}
 
@@ -40,13 +40,14 @@ output_at image reads report = record { image = image; reads = reads; out = repo
 module _ (image : Device) (before : ℕ) (name : List ℕ) (sector : Option ℕ) (old head : Progress)
     (fresh : IsWorkingAfter [] false old) where
   -- the output failed before anything was read
-  pub at_head : (after : ℕ) → Stopped old head (head_lines name sector) →
+  pub at_head : (after : ℕ) → after ≤ before + 1 → Stopped old head (head_lines name sector) →
       OpeningOf name sector (output_at image before old) (output_at image after head) (Err WriteFault)
-  at_head after stopped =
+  at_head after few stopped =
       let found = found_in image.contents sector in
       record {
         found = found;
         super_is_read = inr (refl, found_there image.contents sector);
+        once = λ _. few;
         ends = inr (inl (record {
           no_read_failed = refl;
           found_is = found_there image.contents sector;
@@ -62,7 +63,12 @@ module _ (image : Device) (before : ℕ) (name : List ℕ) (sector : Option ℕ)
           OpeningOf name sector (output_at image before old) (output_at image' after new) (Ok super)
       accepted more =
           let whole = said_then old head new (head_lines name sector) (super_lines (superblock_in super)) said more in
-          record { found = Ok (superblock_in super); super_is_read = answers; ends = (whole.took, refl) }
+          record {
+            found = Ok (superblock_in super);
+            super_is_read = answers;
+            once = λ e. absurd (cc);
+            ends = (whole.took, refl);
+          }
 
       pub at_super : Stopped head new (super_lines (superblock_in super)) →
           OpeningOf name sector (output_at image before old) (output_at image' after new) (Err WriteFault)
@@ -71,6 +77,7 @@ module _ (image : Device) (before : ℕ) (name : List ℕ) (sector : Option ℕ)
           record {
             found = Ok s;
             super_is_read = answers;
+            once = λ e. absurd (cc);
             ends = inr (inl (record {
               no_read_failed = unfailed_of image image' sector s answers;
               found_is = found_of image image' sector s answers;
@@ -80,7 +87,8 @@ module _ (image : Device) (before : ℕ) (name : List ℕ) (sector : Option ℕ)
             }));
           }
 
-    module _ (fault : SuperFault) (answers : ReadsSuper image image' sector (Err fault)) where
+    module _ (fault : SuperFault) (answers : ReadsSuper image image' sector (Err fault))
+      (once : may_read_copy (Err fault) ≡ false → after ≤ before + 1) where
       pub refused : Said head new (fault_line fault ∷ []) →
           OpeningOf name sector (output_at image before old) (output_at image' after new) (Err (Refused fault))
       refused more =
@@ -88,6 +96,7 @@ module _ (image : Device) (before : ℕ) (name : List ℕ) (sector : Option ℕ)
           record {
             found = Err fault;
             super_is_read = answers;
+            once = once;
             ends = inl (record { fault = fault; found_is = refl; went_out = whole.took; end_is = refl });
           }
 
@@ -96,6 +105,7 @@ module _ (image : Device) (before : ℕ) (name : List ℕ) (sector : Option ℕ)
       at_fault stopped = record {
         found = Err fault;
         super_is_read = answers;
+        once = once;
         ends = inr (inr (record {
           fault = fault;
           found_is = refl;
@@ -119,6 +129,12 @@ opened name sector s old head new fresh said more =
       defect = whole.defect ∙ ap (λ d. d || has_defect (head_lines name sector ++ super_lines s)) fresh.defect
           ∙ no_defect_head name sector (super_lines s);
     }
+
+-- an opening that ends as refused, where the layout has a fault
+pub refused_once : (name : List ℕ) (sector : Option ℕ) (old new : Moment) (end : End) →
+    OpeningOf name sector old new (Err end) → (fault : SuperFault) → end ≡ Refused fault →
+    may_read_copy (Err fault) ≡ false → new.reads ≤ old.reads + 1
+refused_once name sector old new end o fault e faulty = grind arith
 
 -- the same of outputs by other names for them
 pub opens_at : {W : Type 0} (sink : W → Sink) (a a' b b' : W) {name : List ℕ} {sector : Option ℕ}

@@ -1,15 +1,15 @@
 -- What the opening of a check prints, and its answer.
-use Rattle.std.specs.Prelude.{◌≡◌, ◌⊎◌, ◌≤◌, ◌+◌, ◌||◌, ◌∷◌, [], ℕ, Bool, false, List, Option, Some, None, Result}
+use Rattle.std.specs.Prelude.{◌≡◌, ◌⊎◌, ◌≤◌, ◌<◌, ◌+◌, ◌*◌, ◌||◌, ◌∷◌, [], ℕ, Bool, false, List, Option, Some, None, Result}
 use Rattle.std.specs.Prelude.{Ok, Err, MatchResult}
 use Rattle.ffs_image.specs.Device.{ForContents}
 use Rattle.ffs_volume.specs.declared.SuperFault.{SuperFault, TheVariants.CannotRead}
 use Rattle.ffs_volume.specs.{declared.End.{End, TheVariants.{Refused, WriteFault}}, Report.Reads.opening_reads}
-use Rattle.ffs_volume.specs.{Disk.{Superblock.Superblock, Outcome.outcome}, Messages.{Kinds.{Message, has_defect}}}
+use Rattle.ffs_volume.specs.{Disk.{Superblock.Superblock, Outcome.{outcome, super_sector}}, Messages.{Kinds.{Message, has_defect}}}
 use Rattle.ffs_volume.specs.{Messages.Texts.texts_of, Report.Opening.{fault_line, head_lines, opening_lines}}
 use Rattle.ffs_report.specs.{Progress.Progress, Sink.{BrokeOff, Took}}
-use Rattle.ffs_layout.specs.{declared.superblock.Super.Super, Super.{IsUnreadable, ReadsSuper, superblock_in}}
+use Rattle.ffs_layout.specs.{declared.superblock.Super.Super, Super.{IsUnreadable, ReadsSuper, may_read_copy, superblock_in}}
 use Rattle.ffs_check.specs.{Ends.BrokeOffAfter, Moment.Moment}
-use Rattle.ffs_volume.specs.Disk.Areas.{FitsIn}
+use Rattle.ffs_volume.specs.{Disk.Areas.FitsIn, declared.constants.TheConstants.{DEV_BSIZE, SUPERBLOCK_BYTES}}
 
 -- the superblock isn't accepted, and its opening went out, with the fault
 pub record OpeningRefused (name : List ℕ) (asked_sector : Option ℕ) (old new : Moment)
@@ -45,21 +45,25 @@ OpeningEnds name asked_sector old new found (Err end) =
     ⊎ (OpeningBrokeOff name asked_sector old new found end
     ⊎ OpeningBrokeInLine name asked_sector old new found end)
 
--- a superblock or a fault was found, as the image has it; its opening went out, or the output failed in it
+-- a superblock or a fault was found, as the image has it; its opening went out, or the output failed in it. One read is
+-- made at most where the layout has a fault
 pub record OpeningOf (name : List ℕ) (asked_sector : Option ℕ) (old new : Moment) (result : Result Super End) :
     Type 0 where
   pub found : Result Superblock SuperFault
   pub super_is_read : ReadsSuper old.image new.image asked_sector found
+  pub once : may_read_copy found ≡ false → new.reads ≤ old.reads + 1
   pub ends : OpeningEnds name asked_sector old new found result
 
 -- an accepted volume lies within the image, and a superblock that can't be read is a failed read, or
--- the image ends before it does. No more is read than the superblock, and its last copy
+-- the image ends before it does. No more is read than the superblock, and its last copy; nothing of an image that ends
+-- before the superblock does
 pub record AnswersOpening (asked_sector : Option ℕ) (old new : Moment) (result : Result Super End) : Type 0 where
   pub inside_or_unreadable : MatchResult result
       (λ super. FitsIn super.geometry.layout old.image.size)
       (λ end. (sector : ℕ) → end ≡ Refused (CannotRead sector)
       → IsUnreadable old.image new.image asked_sector sector)
   pub reads : new.reads ≤ old.reads + opening_reads asked_sector
+  pub short : old.image.size < super_sector asked_sector * DEV_BSIZE + SUPERBLOCK_BYTES → new.reads ≤ old.reads
 
 -- what the opening answers, and what went out of it
 pub record Opens (name : List ℕ) (asked_sector : Option ℕ) (old new : Moment) (result : Result Super End) : Type 0 where

@@ -15,8 +15,8 @@ use Rattle.ffs_volume.specs.{Blocks.BlockCheck.after_first, Costs.RescanRuns.{ru
 use Rattle.ffs_volume.specs.Costs.RescanRuns.{run_offers_of_steps, run_offers_of_owners, rescan_runs}
 use Rattle.ffs_volume.specs.Costs.VolumeReads.{indirect_in_steps, seen_indirect}
 use Rattle.ffs_walk.specs.{Keepings.run_taken, SeenRuns.{seen_runs, step_run}, declared.seen_runs.SeenRun.SeenRun}
-use Rattle.ffs_claims.{proofs.Reportings.{after_append, none_after}, specs.RescanRuns.{indirect_among, offers_of_runs}}
-use Rattle.ffs_claims.specs.RescanRuns.{run_offers}
+use Rattle.ffs_claims.{proofs.Reportings.{after_append, none_after}, specs.Rewalking.{indirect_among, offers_of_runs}}
+use Rattle.ffs_claims.specs.Rewalking.{run_offers}
 
 -- ---- the offers that are kept are the first ones
 offers_firsts : (v : Layout) (i : ℕ) (s : Claims) (start len k : ℕ) →

@@ -19,8 +19,8 @@ use Rattle.ffs_workspace.specs.{Holds.HoldsBlockCheck, declared.workspace.Worksp
 use Rattle.ffs_claims.proofs.{Duplicates.marked_total, Numbers.{before_end, is_inside}, RescanCounts.looked_both}
 use Rattle.ffs_claims.proofs.{RescanCounts.{runs_leave, inode_again}, StepsContinue.range_more}
 use Rattle.ffs_claims.specs.{Claiming.ReadsIndirect, Lines.owners_from, Reporting.{OffersReported, Phase1bKeeps}}
-use Rattle.ffs_claims.specs.{Phases.{WithNotes, phase1b_messages_for}, RescanRuns.{ReadsIndirectAgain, offers_by_owner}}
-use Rattle.ffs_claims.specs.RescanRuns.{offers_of_runs, run_offers}
+use Rattle.ffs_claims.specs.{Phases.{WithNotes, phase1b_messages_for}, Rewalking.{ReadsIndirectAgain, offers_by_owner}}
+use Rattle.ffs_claims.specs.Rewalking.{offers_of_runs, run_offers}
 use Rattle.ffs_image.specs.Device.{Device}
 use Rattle.ffs_report.{proofs.Reporting.{reports_knowing, reports_same}, specs.PhaseOutcome.PhaseReports}
 use Rattle.ffs_report.specs.{Progress.Progress, declared.fault.RunFault.RunFault}

@@ -9,7 +9,7 @@ use Rattle.ffs_workspace.specs.declared.workspace.{Windows.Windows, Workspace.Wo
 use Rattle.ffs_layout.specs.declared.geometry.Geometry.{Geometry}
 use Rattle.ffs_claims.proofs.Reportings.{reporting_over, Reporting, reporting_more, reporting_ends, reported_from}
 use Rattle.ffs_claims.{proofs.RescanCounts.looked_none, specs.Reporting.{OffersReported, ReportsOnly, RewalkLeaves}}
-use Rattle.ffs_claims.specs.RescanRuns.{Rewalked, RoseBy, RunsPay, offers_of_runs, run_offers}
+use Rattle.ffs_claims.specs.Rewalking.{Rewalked, RoseBy, RunsPay, offers_of_runs, run_offers}
 
 -- where a second walk is, with the Runs R left to it: what it reported, and the Runs it looked at
 pub record Rewalking (i : ℕ) (all R : List SeenRun) (u w : Workspace) : Type 0 where

@@ -16,7 +16,7 @@
 -- `Series` about those of them that name whole blocks in a row. `FreeInodes` is about inodes that are passed over.
 --
 -- Phase 1b, who had a fragment first: `Reporting` has what is reported of kept offers (ReportsOffers), and that so
--- many fewer are left as were said whole (ClearsAsSaid), `RescanRuns` those of the Runs of an inode, how many
+-- many fewer are left as were said whole (ClearsAsSaid), `Rewalking` those of the Runs of an inode, how many
 -- Runs are looked at for that, and both together of an inode (Rewalks).
 pub mod Moments
 pub mod Lines
@@ -28,6 +28,6 @@ pub mod SilentAddresses
 pub mod Series
 pub mod FreeInodes
 pub mod Reporting
-pub mod RescanRuns
+pub mod Rewalking
 pub mod Phases
 pub mod BeforeFault

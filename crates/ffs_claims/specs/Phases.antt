@@ -12,7 +12,7 @@ use Rattle.ffs_volume.specs.{Costs.VolumeReads.volume_scan_reads, Report.Whole.r
 use Rattle.ffs_maps.specs.Bits.{bits_of}
 use Rattle.ffs_workspace.specs.{declared.workspace.Workspace.Workspace, Found.{WithFresh, WithPhase1}}
 use Rattle.ffs_workspace.specs.Holds.{HoldsBlockCheck, HoldsPhase1, bool_at, has_unreported_dups}
-use Rattle.ffs_claims.specs.{Leaves.{ClaimsAndFinds, StaySet}, Lines.of_lines, RescanRuns.rescan_end}
+use Rattle.ffs_claims.specs.{Leaves.{ClaimsAndFinds, StaySet}, Lines.of_lines, Rewalking.rescan_end}
 use Rattle.ffs_claims.specs.Reporting.{OffersReported, ReportedInPart}
 
 -- phase 1 leaves what it found in the image's bytes, and `has_dups` answers whether one of its lines is

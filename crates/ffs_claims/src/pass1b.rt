@@ -9,7 +9,7 @@ ghost use Rattle.ffs_workspace.specs.{Found.WithPhase1, Ready.IsReady};
 ghost use Rattle.ffs_claims.specs.{Moments.{after_one_read, claim_moment, phase_moment}, Phases.GoesOverOffers};
 ghost use Rattle.ffs_claims.specs.Phases.{IsLeftByPhase1b, Phase1bReads, Phase1bReadsUnlimited, WithNotes};
 ghost use Rattle.ffs_claims.specs.{Phases.phase1b_messages_for, BeforeFault.DupsSaidBelow, Reporting.CanRewalk};
-ghost use Rattle.ffs_claims.specs.{Reporting.{ClearsAsSaid, Phase1bKeeps}, RescanRuns.{RereadsByBlock, Rewalks}};
+ghost use Rattle.ffs_claims.specs.{Reporting.{ClearsAsSaid, Phase1bKeeps}, Rewalking.{RereadsByBlock, Rewalks}};
 ghost use Rattle.ffs_maps.specs.Bits.{bits_of};
 ghost use Rattle.ffs_volume.specs.Messages.Kinds as messages;
 

@@ -9,7 +9,7 @@ use Rattle.ffs_volume.specs.{declared.{Layout.Layout, Step.{Step, TheVariants.Ru
 use Rattle.ffs_volume.specs.Find.Owner.{keeper_lines_of_step, keeper_lines_of_steps}
 use Rattle.ffs_walk.specs.{Keepings.run_taken, SeenRuns.{indirect_by, seen_runs, step_run, indirect_in_run}}
 use Rattle.ffs_walk.specs.declared.seen_runs.SeenRun.{SeenRun}
-use Rattle.ffs_claims.{specs.RescanRuns.offers_of_runs, proofs.RescanCounts.step_again}
+use Rattle.ffs_claims.{specs.Rewalking.offers_of_runs, proofs.RescanCounts.step_again}
 use Rattle.ffs_finding.specs.{Keepers.{is_in_run, lines_of_runs, lines_of_run, run_text}, declared.owner.Sought.Sought}
 
 -- ---- the lines

@@ -65,7 +65,7 @@ pub record Fills {T E : Type 0} (old new : SourceState) (at : ℕ) (xs : List �
   pub left : SourceAfter old new result
 
 -- the first ones of len bytes at a place were read, by so many reads: each was of all bytes that were left
-abbrev pub Pieces : {S E : Type 0} → (S → ℕ → ℕ → Result ℕ E → S → Type 0) → (at len zero filled : ℕ) →
+abbrev pub Pieces : {S E : Type 0} → (S → ℕ → ℕ → Result ℕ E → S → Type 0) → (at len count filled : ℕ) →
     (old new : S) → Type 0
 Pieces was_read at len zero filled old new = (filled ≡ 0) × (new ≡ old)
 Pieces {S} was_read at len (suc n) filled old new =

@@ -13,8 +13,8 @@ use Rattle.ffs_volume.specs.Directories.Graph.{Graph, edge, is_naming_dir, is_na
 use Rattle.ffs_volume.specs.Directories.{Naming.graph_of, Roles.{RoledEntry, is_dir, role_of, roled_chunk}}
 use Rattle.ffs_volume.specs.Directories.{Roles.{roled_entries, roled_from}, Volumes.{volume_of, volume_with}}
 use Rattle.ffs_volume.specs.{Blocks.Inodes.inodes_of, Encodings.Places.{entries_in_chunk, entries_in_part}}
-use Rattle.ffs_volume.specs.Encodings.Places.{is_due as is_to_be_read, name_in, part_size, part_in, AreParts, AreNoted}
-use Rattle.ffs_volume.specs.Encodings.Places.{IsNoted}
+use Rattle.ffs_volume.specs.Encodings.Places.{is_due as is_to_be_read, name_in, part_size, part_in, AreParts, PlacesAreNoted}
+use Rattle.ffs_volume.specs.Encodings.Places.{PlaceIsNoted}
 use Rattle.ffs_survey.proofs.ParentLaws.{parent_above, IsAbove}
 use Rattle.ffs_workspace.proofs.{Leaving.counts_same, PlaceLaws.{any_naming-roled, name_in-after, name_in-among}}
 use Rattle.ffs_workspace.{proofs.PlaceLaws.name_in-roled, specs.Holds.{HoldsBlockCheck, HoldsSurvey}}
@@ -60,12 +60,12 @@ AreToCome parents ws p all rest = (x : ℕ) → is_child_of parents p x ≡ true
 -- come names it
 abbrev pub AreWaiting : (v : Layout) (b parents first ws : List ℕ) (p : ℕ) (all rest : List RoledEntry) → Type 0
 AreWaiting v b parents first ws p all rest = (x : ℕ) → is_child_of parents p x ≡ true →
-    list_any (is_naming_entry x) all ≡ true → (part_in (slice_index first x) ≡ 0) ⊎ IsNoted v b first x →
-    IsNoted v b ws x ⊎ ((part_in (slice_index ws x) ≡ 0) × (list_any (is_naming_entry x) rest ≡ true))
+    list_any (is_naming_entry x) all ≡ true → (part_in (slice_index first x) ≡ 0) ⊎ PlaceIsNoted v b first x →
+    PlaceIsNoted v b ws x ⊎ ((part_in (slice_index ws x) ≡ 0) × (list_any (is_naming_entry x) rest ≡ true))
 
 -- a place that is right stays so where the word keeps it
 noted_still : {v : Layout} {b old new : List ℕ} {x : ℕ} →
-    part_in (slice_index new x) ≡ part_in (slice_index old x) → IsNoted v b old x → IsNoted v b new x
+    part_in (slice_index new x) ≡ part_in (slice_index old x) → PlaceIsNoted v b old x → PlaceIsNoted v b new x
 noted_still same h = record { part = h.part; place = same ∙ h.place; inside = h.inside; named = h.named }
 
 kept_place : (m y : Bool) (a b place j : ℕ) → a ≡ suc j → b ≡ (if m && ((a == 0) && y) then place else a) → b ≡ a
@@ -201,7 +201,7 @@ module _ {v : Layout} {b parents old new : List ℕ} {p place at offset : ℕ} {
 
       go : part_in (slice_index old x) ≡ 0 → list_any (is_naming_entry x) (flat_map roled_chunk rest) ≡ true →
           (y : Bool) → list_any (is_naming_entry x) (entries_in_chunk v.order bytes) ≡ y →
-          IsNoted v b new x ⊎ ((part_in (slice_index new x) ≡ 0)
+          PlaceIsNoted v b new x ⊎ ((part_in (slice_index new x) ≡ 0)
           × (list_any (is_naming_entry x) (flat_map roled_chunk later) ≡ true))
       go none coming true e =
           inl (record {
@@ -216,7 +216,7 @@ module _ {v : Layout} {b parents old new : List ℕ} {p place at offset : ℕ} {
 pub all_noted : (v : Layout) (b parents first ws : List ℕ) (p : ℕ) (all : List RoledEntry) (rest : List Chunk) →
     rest ≡ [] → AreWaiting v b parents first ws p all (flat_map roled_chunk rest) → (x : ℕ) →
     is_child_of parents p x ≡ true → list_any (is_naming_entry x) all ≡ true →
-    (part_in (slice_index first x) ≡ 0) ⊎ IsNoted v b first x → IsNoted v b ws x
+    (part_in (slice_index first x) ≡ 0) ⊎ PlaceIsNoted v b first x → PlaceIsNoted v b ws x
 all_noted v b parents first ws p all rest none waiting x child named before = grind arith
 
 -- what is noted of other inodes, and what is to be read
@@ -301,7 +301,7 @@ not_root g x k h = sym (within-zero g x) ∙ (level-some g (suc k) x h).0.least 
 abbrev pub AreComing : Layout → List ℕ → (words : List ℕ) → Type 0
 AreComing v b words = (x p k : ℕ) → level (graph_of (volume_of v b)) x ≡ Some (suc k) →
     IsAbove (graph_of (volume_of v b)) k x p →
-    IsNoted v b words x ⊎ ((part_in (slice_index words x) ≡ 0) × (is_to_be_read (slice_index words p) ≡ true))
+    PlaceIsNoted v b words x ⊎ ((part_in (slice_index words x) ≡ 0) × (is_to_be_read (slice_index words p) ≡ true))
 
 -- the number of a directory
 dir_number : (v : Layout) (b : List ℕ) (x : ℕ) → is_dir (volume_of v b) x ≡ true → (2 ≤ x) × (x < inodes_of v)
@@ -325,11 +325,11 @@ coming_noted {v = v} {b = b} {w = w} {mid = mid} {new = new} {d = d} old survey 
     up : slice_index w.parents.items x ≡ p
     up = survey.tree.parents x ∙ ap (λ (o : Option ℕ). unwrap_or o 0) under.is
 
-    before : IsNoted v b mid x ⊎ ((part_in (slice_index mid x) ≡ 0) × (is_to_be_read (slice_index old p) ≡ true))
+    before : PlaceIsNoted v b mid x ⊎ ((part_in (slice_index mid x) ≡ 0) × (is_to_be_read (slice_index old p) ≡ true))
     before = elim (coming x p k there under) [ inl is ↦ inl (noted_still (same x) is) | inr w ↦ inr (same x ∙ w.0, w.1) ]
 
     go : (p ≡ d) ⊎ (p ≢ d) →
-        IsNoted v b new x ⊎ ((part_in (slice_index new x) ≡ 0) × (is_to_be_read (slice_index new p) ≡ true))
+        PlaceIsNoted v b new x ⊎ ((part_in (slice_index new x) ≡ 0) × (is_to_be_read (slice_index new p) ≡ true))
     go (inl e) =
         let link = and_parts (is_dir (volume_of v b) p) (list_any (is_naming_entry x) (roled_entries (volume_of v b) p))
         (and_parts (is_dir (volume_of v b) x) (is_naming_dir (graph_of (volume_of v b)) p x) under.linked).1 in
@@ -348,7 +348,7 @@ coming_noted {v = v} {b = b} {w = w} {mid = mid} {new = new} {d = d} old survey 
 
 -- where nothing is to be read any more, all are noted
 pub coming_end : (v : Layout) (b words : List ℕ) → ((x : ℕ) → x < inodes_of v → is_to_be_read (slice_index words x) ≡ false) →
-    AreComing v b words → AreNoted v b words
+    AreComing v b words → PlacesAreNoted v b words
 coming_end v b words none coming x k h =
     let above = parent_above (graph_of (volume_of v b)) k x h in
     elim (coming x above.0 k h above.1) [

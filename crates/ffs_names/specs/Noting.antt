@@ -12,7 +12,7 @@ use Rattle.ffs_volume.specs.declared.{constants.TheConstants.ROOTINO, Layout.Lay
 use Rattle.ffs_volume.specs.Directories.{Graph.is_naming_entry, Roles.{RoledEntry, roled_entries}, Volumes.volume_of}
 use Rattle.ffs_volume.specs.{Disk.Search.some_below, Encodings.Lists.bool_at, Blocks.Inodes.inodes_of}
 use Rattle.ffs_volume.specs.{Costs.DirectoryReads.{costs_below, noted_directory_cost}, Encodings.Places.entries_in_part}
-use Rattle.ffs_volume.specs.Encodings.Places.{is_due as is_to_be_read, name_in, part_in, AreNoted, IsNoted}
+use Rattle.ffs_volume.specs.Encodings.Places.{is_due as is_to_be_read, name_in, part_in, PlacesAreNoted, PlaceIsNoted}
 use Rattle.ffs_names.specs.{Costs.{to_read, HoldsReading}, Windows.CanReadChunks, declared.chunks.Chunks.Chunks}
 
 -- a place that isn't 0 and has 31 bits can be noted for children of p, which isn't 0, by lists of one
@@ -82,7 +82,7 @@ NotesRight v b es old new = (x k : ℕ) → part_in (slice_index new x) ≡ suc 
 -- a place is noted of each child that a plain one of these entries names, if none or a right one was noted before
 abbrev pub NotesEach : (v : Layout) (b : List ℕ) (child : ℕ → Bool) (es : List RoledEntry) (old new : List ℕ) → Type 0
 NotesEach v b child es old new = (x : ℕ) → child x ≡ true → list_any (is_naming_entry x) es ≡ true →
-    (part_in (slice_index old x) ≡ 0) ⊎ IsNoted v b old x → IsNoted v b new x
+    (part_in (slice_index old x) ≡ 0) ⊎ PlaceIsNoted v b old x → PlaceIsNoted v b new x
 
 -- no place of an inode with another parent is noted, and what is to be read stays so
 pub record NotesChildren (parents old new : List ℕ) (p : ℕ) : Type 0 where
@@ -130,7 +130,7 @@ pub record BeginsNotes (reached : List Bool) (parents : List ℕ) (words : Vec �
 -- reached and isn't the root
 pub record HoldsPlaces (v : Layout) (b : List ℕ) (w : Workspace) : Type 0 where
   pub survey : HoldsSurvey v b w
-  pub noted : AreNoted v b w.words.items
+  pub noted : PlacesAreNoted v b w.words.items
 
 -- what a call leaves that notes the chunks of p that are to come: the other windows are as they were, only
 -- children of p are noted, in as many words, and the image is read at most as often as these chunks ask for

@@ -13,7 +13,7 @@ use Rattle.ffs_volume.proofs.{Numbered.all_from_root, Sizes.some_inodes}
 use Rattle.ffs_workspace.specs.{declared.workspace.Workspace.Workspace, Lengths.IsFor, Holds.{bool_at, HoldsBlockCheck}}
 use Rattle.ffs_workspace.{specs.{Holds.{HoldsReferences, HoldsSurvey}, Leaves.LeavesSurvey}, proofs.KindLaws.reports_at}
 use Rattle.ffs_workspace.proofs.{KindLaws.suspect_is, Leaving.{claims_left, survey_left, leaves_all}}
-use Rattle.ffs_pathnames.specs.{KnowsNoted.KnowsNoted, Before.{IsNonePassed, KnowsBefore, KnowsBeforeNoted}}
+use Rattle.ffs_pathnames.specs.{KnowsAtDirectory.KnowsAtDirectory, Before.{IsNonePassed, KnowsBefore, KnowsBeforeWithPlaces}}
 use Rattle.ffs_pathnames.specs.{Sees.passed_of, Silent.IsSilentDirectory, RootAnswers.root_reported}
 use Rattle.ffs_pathnames.specs.{ChecksNeeded.needs_check, PassedRight.RemembersBefore, Stamps.KeepParts}
 use Rattle.ffs_pathnames.proofs.{Begun.{directory_is, quiet_parts}, StampLaws.{noted_kept, stamps_length}}
@@ -63,21 +63,21 @@ before_next {v = v} {b = b} e s r k = record {
 -- the same, where places are noted
 pub noted_next : {v : Layout} {contents contents' : Option (List ℕ)} {old new : Workspace} {d d' : ℕ} {b : List ℕ} →
     contents' ≡ contents → LeavesSurvey old new → KeepParts old.words.items new.words.items →
-    RemembersBefore (volume_of v b) d' (passed_of new) → KnowsBeforeNoted v contents old d b →
-    KnowsBeforeNoted v contents' new d' b
+    RemembersBefore (volume_of v b) d' (passed_of new) → KnowsBeforeWithPlaces v contents old d b →
+    KnowsBeforeWithPlaces v contents' new d' b
 noted_next {v = v} {b = b} e s keep r k = record {
   before = before_next e s r k.before;
   noted = noted_kept v b _ _ keep k.noted;
 }
 
 pub noted_reported : {v : Layout} {contents contents' : Option (List ℕ)} {w : Workspace} {d : ℕ} {b : List ℕ} →
-    contents' ≡ contents → KnowsBeforeNoted v contents w d b → KnowsBeforeNoted v contents' w d b
+    contents' ≡ contents → KnowsBeforeWithPlaces v contents w d b → KnowsBeforeWithPlaces v contents' w d b
 noted_reported {w = w} e k = noted_next e (leaves_all w) (λ x. refl) k.before.passed k
 
 module _ {v : Layout} {contents : Option (List ℕ)} {w : Workspace} {d : ℕ} {b : List ℕ} where
   -- what is known of a directory that is looked at
-  pub directory_context : (slice_index w.kinds.items d == 4) ≡ true → KnowsBeforeNoted v contents w d b →
-      KnowsNoted v contents w d b
+  pub directory_context : (slice_index w.kinds.items d == 4) ≡ true → KnowsBeforeWithPlaces v contents w d b →
+      KnowsAtDirectory v contents w d b
   directory_context e k = grind (arith, looked_dir)
 
   pub lines_looked : (slice_index w.kinds.items d == 4) ≡ true → KnowsBefore v contents w d b →

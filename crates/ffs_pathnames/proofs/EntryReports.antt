@@ -8,7 +8,7 @@ use Rattle.ffs_report.proofs.{Paying.{paid_reads, paid_says, paid_stops}, Report
 use Rattle.ffs_report.specs.declared.fault.RunFault.{RunFault, TheVariants.{Read, Out}}
 use Rattle.ffs_workspace.specs.declared.workspace.Workspace.{Workspace}
 use Rattle.ffs_paths.specs.{declared.kept_parent.KeptParent.KeptParent, Reads.KnowsPlaces}
-use Rattle.ffs_pathnames.specs.{KnowsNoted.{KnowsNoted, KeepsPath, KnowsPath}, Ready.LimitedPathLeaves}
+use Rattle.ffs_pathnames.specs.{KnowsAtDirectory.{KnowsAtDirectory, KeepsPath, KnowsPath}, Ready.LimitedPathLeaves}
 use Rattle.ffs_pathnames.specs.{EntryLines.SaysEntryLines, Moments.LinesMoment}
 use Rattle.ffs_pathnames.specs.{declared.entry_texts.EntryTexts.EntryTexts, PassedNames.{PassedNames, entries_reported}}
 use Rattle.ffs_pathnames.{specs.{PassedNames.roled_reported, LineReads.ReadsPathOnce}, proofs.PathOnce.by_once}
@@ -24,7 +24,7 @@ module _ {S : Type 0} {v : Layout} {d d' : Device} {w w' : Workspace} {x : ℕ} 
     (record { image = d'; reads = reads'; workspace = w' }) s r)
     (stays : IsTrue t.path_settled → IsTrue t'.path_settled)
     (once : (bytes : List ℕ) → KnowsPlaces v d.contents w bytes → ReadsPathOnce 1 t t' reads reads')
-    (some : ForBytes (KnowsNoted v d.contents w x) (λ bytes. 1 ≤ length (lines (volume_of v bytes)))) where
+    (some : ForBytes (KnowsAtDirectory v d.contents w x) (λ bytes. 1 ≤ length (lines (volume_of v bytes)))) where
   -- what is said, and read for it, is by the texts that were gathered
   entry_by : {T : Type 0} {a b : Progress} {said : Result T RunFault} →
       PhaseReports (KnowsPath v d.contents w x t) (λ bytes. map of_tree (lines (volume_of v bytes))) a b said →

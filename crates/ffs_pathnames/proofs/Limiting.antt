@@ -8,7 +8,7 @@ use Rattle.ffs_image.{specs.Limited.limited_device, proofs.Limits.{ServedBy, rea
 use Rattle.ffs_volume.specs.declared.Layout.{Layout}
 use Rattle.ffs_paths.specs.{Reads.{KnowsPlaces, OnlyReads, ReadsAtMost}, KeptParents.{HoldsKeptParent, KeptMoment}}
 use Rattle.ffs_paths.specs.{KeptParents.{PathLeaves, SparesReads}, declared.kept_parent.KeptParent.KeptParent}
-use Rattle.ffs_pathnames.{specs.{KnowsNoted.KnowsNoted, Ready.LimitedPathLeaves}, proofs.LineCounts.knows_places}
+use Rattle.ffs_pathnames.{specs.{KnowsAtDirectory.KnowsAtDirectory, Ready.LimitedPathLeaves}, proofs.LineCounts.knows_places}
 
 -- the moment at which an image, how often it was read, and a workspace are these; and what is kept of a parent
 abbrev path_at : Device → ℕ → Workspace → WorkMoment
@@ -22,7 +22,7 @@ kept_at d reads w s = record { at = path_at d reads w; kept = s }
 pub record IsGathered {T : Type 0} (n : ℕ) (v : Layout) (d d' : Device) (name_lent name : GName) (count count' : ℕ)
     (w w' : Workspace) (s : KeptParent) (spent : Bool) (r : Result T ImageFault) : Type 0 where
   pub same_image : name_lent ≡ name
-  pub all : (b : List ℕ) (x : ℕ) → KnowsNoted v d.contents w x b → spent ≡ true → ⊥
+  pub all : (b : List ℕ) (x : ℕ) → KnowsAtDirectory v d.contents w x b → spent ≡ true → ⊥
   pub leaves : spent ≡ false → LimitedPathLeaves v n (path_at d count w) (path_at d' count' w') s r
   pub forgets : spent ≡ true → (x : T) (s' : KeptParent) → HoldsKeptParent v d'.contents w' s'
       → LimitedPathLeaves v n (path_at d count w) (path_at d' count' w') s' (Ok x)

@@ -5,15 +5,15 @@ use Rattle.std.proofs.lemmas.List.{length-map}
 use Rattle.ffs_image.specs.Device.{Device}
 use Rattle.ffs_volume.specs.{declared.{Attr.Attr, Layout.Layout}, Report.Reads.line_reads, Directories.Entries.Entry}
 use Rattle.ffs_volume.specs.Directories.{PathnameCheck.extra_lines, Roles.{RoledEntry, Volume}}
-use Rattle.ffs_volume.specs.{Messages.Kinds.{TreeMessage, of_tree}, Encodings.Places.AreNoted}
+use Rattle.ffs_volume.specs.{Messages.Kinds.{TreeMessage, of_tree}, Encodings.Places.PlacesAreNoted}
 use Rattle.ffs_workspace.{specs.declared.workspace.Workspace.Workspace, proofs.Leaving.{claims_held, survey_held}}
 use Rattle.ffs_paths.{specs.Reads.{KnowsPlaces, OnlyReads, ReadsFew}, proofs.Climbed.few_more}
-use Rattle.ffs_pathnames.specs.{KnowsNoted.KnowsNoted, PassedNames.{PassedNames, after_roled}}
+use Rattle.ffs_pathnames.specs.{KnowsAtDirectory.KnowsAtDirectory, PassedNames.{PassedNames, after_roled}}
 use Rattle.ffs_pathnames.specs.PassedNames.{entries_reported, roled_reported}
 
 -- ---- where there is a line
 pub knows_places : (v : Layout) (contents : Option (List ℕ)) (w : Workspace) (d : ℕ) (b : List ℕ) →
-    KnowsNoted v contents w d b → AreNoted v b w.words.items → KnowsPlaces v contents w b
+    KnowsAtDirectory v contents w d b → PlacesAreNoted v b w.words.items → KnowsPlaces v contents w b
 knows_places v contents w d b k noted = grind arith
 
 -- where nothing is read there are as few reads as one likes

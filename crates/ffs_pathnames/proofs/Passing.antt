@@ -9,7 +9,7 @@ use Rattle.ffs_volume.specs.{Directories.Roles.is_dir, Encodings.Replay.{cut_at,
 use Rattle.ffs_names.{specs.RunCursors.reading_by, proofs.DirLaws.{dir_is, dir_size, dir_seen}}
 use Rattle.ffs_workspace.specs.{Leaves.LeavesSurvey, declared.workspace.Workspace.Workspace}
 use Rattle.ffs_workspace.proofs.Leaving.{claims_left, survey_left}
-use Rattle.ffs_pathnames.{specs.{KnowsNoted.KnowsNoted, Stamps.KeepParts}, proofs.StampLaws.noted_kept}
+use Rattle.ffs_pathnames.{specs.{KnowsAtDirectory.KnowsAtDirectory, Stamps.KeepParts}, proofs.StampLaws.noted_kept}
 use Rattle.ffs_pathnames.specs.PassedNames.{PassedNames, after_roled, after_entries, roled_reported, entries_reported}
 
 -- the names that were passed after some entries and others
@@ -63,8 +63,8 @@ passes vol d e flags stamps law = rw (← flags, ← stamps) law
 -- what is known of a workspace's lists stays where they stay
 pub knows_on : (v : Layout) (contents contents' : Option (List ℕ)) (old new : Workspace) (d : ℕ) (b : List ℕ) →
     contents' ≡ contents → LeavesSurvey old new → KeepParts old.words.items new.words.items →
-    KnowsNoted v contents old d b →
-    KnowsNoted v contents' new d b
+    KnowsAtDirectory v contents old d b →
+    KnowsAtDirectory v contents' new d b
 knows_on v contents contents' old new d b e s keep k = grind (arith, claims_left, survey_left, noted_kept)
 
 -- the entries of all chunks that a reading of a directory gives

@@ -3,7 +3,7 @@ use Rattle.std.proofs.Common.{arith, ◌≡◌, ℕ, zero, suc, Bool, true, fals
 use Rattle.std.proofs.Common.{slice_index, slice_set, not, ◌&&◌, ◌==◌, ◌<◌, ◌≤◌, ◌∙◌, ap, eqb-true, eq-eqb, lt-ltb}
 use Rattle.std.{proofs.lemmas.Bool.{and_from, and_parts}, specs.declared.{alloc.Global.Global, vec.Vec.Vec}}
 use Rattle.ffs_workspace.specs.{Leaves.LeavesSurvey, declared.workspace.Workspace.Workspace}
-use Rattle.ffs_volume.specs.{Encodings.Places.{is_due, part_in, AreNoted}, declared.{Layout.Layout, Role.Role}}
+use Rattle.ffs_volume.specs.{Encodings.Places.{is_due, part_in, PlacesAreNoted}, declared.{Layout.Layout, Role.Role}}
 use Rattle.ffs_volume.specs.{Encodings.Kinds.is_dir_kind, Directories.{Entries.Entry, Roles.{Volume, is_plain}}}
 use Rattle.ffs_pathnames.specs.{DirectoryLooks.LeavesAllButDue, declared.inodes.Inodes.Inodes, Sees.{Sees, passed_in}}
 use Rattle.ffs_pathnames.specs.{Sees.stamps_in, Stamps.{stamp_of, stamps_of, KeepParts, KeepsWords}}
@@ -56,7 +56,7 @@ pub windows_keep : (old new : Workspace) → new ≡ record old { windows = new.
 windows_keep old new e x = ap (λ (w : Workspace). part_in (slice_index w.words.items x)) e
 
 -- a place is noted of the same directories
-pub noted_kept : (v : Layout) (b : List ℕ) (old new : List ℕ) → KeepParts old new → AreNoted v b old → AreNoted v b new
+pub noted_kept : (v : Layout) (b : List ℕ) (old new : List ℕ) → KeepParts old new → PlacesAreNoted v b old → PlacesAreNoted v b new
 noted_kept v b old new keep noted x k reached = grind arith
 
 -- where the flags, the words and the windows alone have changed

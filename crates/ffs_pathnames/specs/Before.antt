@@ -1,7 +1,7 @@
 -- What is known between two directories of the pathname check.
 use Rattle.std.specs.Prelude.{◌≡◌, ℕ, not, ◌&&◌, List, Option, Some, slice_index}
 use Rattle.ffs_image.specs.Device.{Device}
-use Rattle.ffs_volume.specs.{declared.Layout.Layout, Directories.Volumes.volume_of, Encodings.Places.AreNoted}
+use Rattle.ffs_volume.specs.{declared.Layout.Layout, Directories.Volumes.volume_of, Encodings.Places.PlacesAreNoted}
 use Rattle.ffs_workspace.specs.{declared.workspace.Workspace.Workspace, Leaves.LeavesSurvey, Holds.bool_at}
 use Rattle.ffs_workspace.specs.{Holds.{HoldsBlockCheck, HoldsSurvey}, Ready.{CanRead, IsReady}}
 use Rattle.ffs_pathnames.specs.{PassedRight.RemembersBefore, Sees.passed_of}
@@ -25,6 +25,6 @@ pub record KnowsBefore (v : Layout) (contents : Option (List ℕ)) (w : Workspac
   pub passed : RemembersBefore (volume_of v b) dir (passed_of w)
 
 -- KnowsBefore, and a place is noted of the parent entry of each directory that is reached and isn't the root
-pub record KnowsBeforeNoted (v : Layout) (contents : Option (List ℕ)) (w : Workspace) (dir : ℕ) (b : List ℕ) : Type 0 where
+pub record KnowsBeforeWithPlaces (v : Layout) (contents : Option (List ℕ)) (w : Workspace) (dir : ℕ) (b : List ℕ) : Type 0 where
   pub before : KnowsBefore v contents w dir b
-  pub noted : AreNoted v b w.words.items
+  pub noted : PlacesAreNoted v b w.words.items

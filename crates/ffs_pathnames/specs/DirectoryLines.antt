@@ -6,7 +6,7 @@ use Rattle.ffs_volume.specs.{declared.Layout.Layout, Directories.{PathnameCheck.
 use Rattle.ffs_volume.specs.{Directories.{Roles.Volume, Volumes.volume_of}, Report.Reads.{line_reads, path_reads}}
 use Rattle.ffs_volume.specs.{Report.Reads.sweep_reads, Messages.Kinds.{TreeMessage, of_tree}}
 use Rattle.ffs_volume.specs.Costs.DirectoryReads.{directories_cost, directory_cost, directory_runs, looks_cost}
-use Rattle.ffs_volume.specs.{Costs.DirectoryReads.places_cost, Encodings.Places.AreNoted}
+use Rattle.ffs_volume.specs.{Costs.DirectoryReads.places_cost, Encodings.Places.PlacesAreNoted}
 use Rattle.ffs_paths.specs.declared.kept_parent.KeptParent.{KeptParent}
 use Rattle.ffs_workspace.specs.{Holds.{HoldsBlockCheck, HoldsSurvey}, Leaves.LeavesAllButPlaces, Ready.CanRead}
 use Rattle.ffs_pathnames.specs.{ChecksNeeded.ChecksLookedAt, Before.KnowsBefore, LineReads.{again_reads, ReadsByLines}}
@@ -33,7 +33,7 @@ pub record ReportsHeader {T : Type 0} (v : Layout) (h : HeaderFacts) (old new : 
 pub record ReportsDirectory {T : Type 0} (v : Layout) (task : LinesMoment Checking → LinesMoment Checking → DirectoryTask T)
     (old new : LinesMoment Checking) (result : Result T RunFault) : Type 0 where
   pub text : PhaseReports (task old new).knows (λ b. map of_tree ((task old new).lines b)) old.report new.report result
-  pub reads : ForBytes (task old new).knows (λ b. AreNoted v b old.at.workspace.words.items
+  pub reads : ForBytes (task old new).knows (λ b. PlacesAreNoted v b old.at.workspace.words.items
       → new.at.reads ≤ old.at.reads + ((task old new).own_reads b + line_reads * length ((task old new).lines b)))
   pub spends : ForBytes (task old new).knows
       (λ b. old.kept.reads_left ≤ new.kept.reads_left + (task old new).own_reads b)
@@ -68,14 +68,14 @@ pub record ReportsTree {T : Type 0} (v : Layout) (lines : Volume → List TreeMe
 -- `again_reads` reads are made at most, where the place of each directory is noted
 abbrev pub ReadsForEntries : Layout → Directory → (old new : LinesMoment Checking) → Type 0
 ReadsForEntries v directory old new = ForBytes (entries_task v directory old new).knows (λ b.
-    AreNoted v b old.at.workspace.words.items → new.at.reads ≤ old.at.reads + (directory_runs v b directory.number
+    PlacesAreNoted v b old.at.workspace.words.items → new.at.reads ≤ old.at.reads + (directory_runs v b directory.number
     + (path_reads + again_reads * length ((entries_task v directory old new).lines b))))
 
 -- where a first look at the directory `dir` makes sure that nothing is reported of its entries, its own blocks
 -- are read once, and the rest is read for the lines that come before these
 abbrev pub ReadsQuietOnce : Layout → (dir : ℕ) → (old new : LinesMoment Checking) → Type 0
 ReadsQuietOnce v dir old new = ForBytes (sized_task v dir old new).knows (λ b.
-    AreNoted v b old.at.workspace.words.items
+    PlacesAreNoted v b old.at.workspace.words.items
     → are_quiet (volume_of v b) dir old.at.workspace.flags.items (passed_of old.at.workspace).stamps
     (roled_entries (volume_of v b) dir) ≡ true
     → new.at.reads

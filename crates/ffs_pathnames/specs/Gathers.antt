@@ -14,7 +14,7 @@ use Rattle.ffs_layout.specs.Entry.{entry_value}
 use Rattle.ffs_paths.specs.{DirectoryPaths.IsPathOf, KeptParents.{kept_moment, StoresChild, PathLeaves, SparesReads}}
 use Rattle.ffs_paths.specs.{LastPaths.last_path, Reads.{KnowsPlaces, OnlyReadsFew}}
 use Rattle.ffs_paths.specs.declared.{entry_paths.EntryPaths.EntryPaths, kept_parent.KeptParent.KeptParent}
-use Rattle.ffs_pathnames.specs.{KnowsNoted.{KnowsNoted, KeepsPath, KnowsPath}, Ready.LimitedPathLeaves}
+use Rattle.ffs_pathnames.specs.{KnowsAtDirectory.{KnowsAtDirectory, KeepsPath, KnowsPath}, Ready.LimitedPathLeaves}
 use Rattle.ffs_pathnames.specs.declared.{gather.DirectoryEntry.DirectoryEntry, entry_texts.EntryTexts.EntryTexts}
 use Rattle.ffs_pathnames.specs.{PassedNames.{roled_reported, verdict_at_reading}, LineReads.ReadsPathOnce}
 use Rattle.ffs_pathnames.specs.Sees.{passed_of}
@@ -102,7 +102,7 @@ module _ {S : Type 0} (I : Ghosts S) (v : Layout) (old new : S) (w w' : Workspac
   -- directory y is checked
   pub record SparesPath {T : Type 0} (dir : ℕ) (s s' : KeptParent) (result : Result T ImageFault) : Type 0 where
     pub reads : SparesReads v dir (kept_moment I old w s) (kept_moment I new w' s')
-    pub keeps : OnOk result ((y : ℕ) → ForBytes (KnowsNoted v (I.device old).contents w y)
+    pub keeps : OnOk result ((y : ℕ) → ForBytes (KnowsAtDirectory v (I.device old).contents w y)
         (λ b. StoresChild w dir s s'))
 
   -- the path is made, with at most `path_reads` reads of any image
@@ -127,14 +127,14 @@ module _ {S : Type 0} (I : Ghosts S) (v : Layout) (old new : S) (w w' : Workspac
   -- the path of the directory `dir` is put into a text, whichever directory y is checked
   pub record PutsPath {T : Type 0} (dir : ℕ) (text : List ℕ) (s : KeptParent) (result : Result T ImageFault)
       : Type 0 where
-    pub path : OnOk result ((y : ℕ) → ForBytes (KnowsNoted v (I.device old).contents w y) (λ b.
+    pub path : OnOk result ((y : ℕ) → ForBytes (KnowsAtDirectory v (I.device old).contents w y) (λ b.
         text ≡ dir_path (graph_of (volume_of v b)) dir))
     pub leaves : ReadsForPaths path_reads s result
 
   -- the same, where it is wanted, and else nothing is read; the paths of entries and of their directory stay
   pub record PutsWanted {T : Type 0} (wanted : Bool) (dir : ℕ) (t t' : EntryTexts) (result : Result T ImageFault)
       : Type 0 where
-    pub path : OnOk result ((y : ℕ) → ForBytes (KnowsNoted v (I.device old).contents w y) (λ b.
+    pub path : OnOk result ((y : ℕ) → ForBytes (KnowsAtDirectory v (I.device old).contents w y) (λ b.
         IsTrue wanted → t'.shown_directory.items ≡ dir_path (graph_of (volume_of v b)) dir))
     pub same : (t'.path_settled ≡ t.path_settled) × (t'.paths ≡ t.paths)
     pub leaves : ReadsForPaths (if_wanted wanted path_reads) t'.kept_parent result
@@ -153,7 +153,7 @@ module _ {S : Type 0} (I : Ghosts S) (v : Layout) (old new : S) (w w' : Workspac
   -- all that messages of a verdict on an entry show, where the path of its directory is made; that stays
   pub record GathersPathsAndAttr (e : Entry) (verdict : Verdict) (t t' : EntryTexts) (result : Result Attr ImageFault)
       : Type 0 where
-    pub enough : IfOk result (λ a. (dir : ℕ) → ForBytes (KnowsNoted v (I.device old).contents w dir) (λ b.
+    pub enough : IfOk result (λ a. (dir : ℕ) → ForBytes (KnowsAtDirectory v (I.device old).contents w dir) (λ b.
         IsPathOf (graph_of (volume_of v b)) dir t.paths.directory
         → IsEnough (volume_of v b) verdict dir e.number e.name a (last_path t'.paths) t'.shown_directory.items))
     pub same : (t'.path_settled ≡ t.path_settled) × (t'.paths.directory ≡ t.paths.directory)
@@ -173,7 +173,7 @@ module _ {S : Type 0} (I : Ghosts S) (v : Layout) (old new : S) (w w' : Workspac
   -- what the message on an extra entry of the directory `dir` shows: its attributes and its path; the
   -- path that is settled, if any, still is that of `dir`, and is made once
   pub record GathersExtra (dir : ℕ) (t t' : EntryTexts) (result : Result Attr ImageFault) : Type 0 where
-    pub attr : IfOk result (λ a. ForBytes (KnowsNoted v (I.device old).contents w dir) (λ b.
+    pub attr : IfOk result (λ a. ForBytes (KnowsAtDirectory v (I.device old).contents w dir) (λ b.
         a ≡ attributes (volume_of v b) dir))
     pub text : OnOk result (ForBytes (KnowsPath v (I.device old).contents w dir t) (λ b.
         t'.shown_directory.items ≡ dir_path (graph_of (volume_of v b)) dir))

@@ -10,7 +10,7 @@ use Rattle.ffs_volume.specs.Directories.{Entries.Entry, Naming.graph_of, Paths.d
 use Rattle.ffs_volume.specs.Messages.Kinds.{TreeMessage}
 use Rattle.ffs_layout.specs.Entry.{entry_value}
 use Rattle.ffs_workspace.specs.declared.workspace.Workspace.{Workspace}
-use Rattle.ffs_pathnames.specs.{KnowsNoted.KnowsNoted, StartChunks.start_chunk, declared.header.HeaderFacts.HeaderFacts}
+use Rattle.ffs_pathnames.specs.{KnowsAtDirectory.KnowsAtDirectory, StartChunks.start_chunk, declared.header.HeaderFacts.HeaderFacts}
 
 -- 0 means no number
 abbrev pub number_if : ℕ → Option ℕ
@@ -25,10 +25,10 @@ pub record AreFirstTwo (one two : Option Entry) (started : Bool) (order : Order)
   pub first : one ≡ started_entry 0 started order start
   pub second : two ≡ started_entry 1 started order start
 
--- the bytes are those of KnowsNoted for a header's directory, and the header shows its inode
+-- the bytes are those of KnowsAtDirectory for a header's directory, and the header shows its inode
 abbrev pub KnowsHeader : Layout → Device → Workspace → HeaderFacts → List ℕ → Type 0
 KnowsHeader v d w h b =
-    KnowsNoted v d.contents w h.attr.number b
+    KnowsAtDirectory v d.contents w h.attr.number b
     × (h.attr ≡ attributes_of h.attr.number (inode_of v b h.attr.number))
 
 -- what is wrong, with names as their bytes

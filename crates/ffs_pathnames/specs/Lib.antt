@@ -5,7 +5,7 @@
 -- and what is reported by that, `Silent` of which directories nothing is reported, `PassedRight` that what is
 -- remembered is right, `Sees` what the lists of the workspace show of a volume.
 --
--- What calls need, and leave: `Moments` has the values that calls change, `KnowsNoted` what is known of
+-- What calls need, and leave: `Moments` has the values that calls change, `KnowsAtDirectory` what is known of
 -- the bytes at a directory, `Ready` when paths can be made, `LineReads` how many reads lines take, `Gathers`
 -- what messages show, `Before` what is known between two directories, `ReadsLeft` how many reads are left for
 -- first looks and second readings. A name with `Knows` says what is known of the bytes: a clause is for those
@@ -27,7 +27,7 @@ pub mod Silent
 pub mod PassedRight
 pub mod Sees
 pub mod Moments
-pub mod KnowsNoted
+pub mod KnowsAtDirectory
 pub mod Ready
 pub mod LineReads
 pub mod Gathers

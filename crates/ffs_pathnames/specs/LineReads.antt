@@ -2,7 +2,7 @@
 use Rattle.std.specs.Prelude.{ℕ, ◌+◌, ◌*◌, ◌≤◌, if◌then◌else◌, List, length}
 use Rattle.ffs_workspace.specs.Moments.{WorkMoment}
 use Rattle.ffs_volume.specs.{Messages.Kinds.TreeMessage, declared.Layout.Layout, Report.Reads.{line_reads, path_reads}}
-use Rattle.ffs_volume.specs.Encodings.Places.{AreNoted}
+use Rattle.ffs_volume.specs.Encodings.Places.{PlacesAreNoted}
 use Rattle.ffs_paths.specs.Reads.{ReadsFew}
 use Rattle.ffs_pathnames.specs.{declared.entry_texts.EntryTexts.EntryTexts}
 
@@ -10,7 +10,7 @@ use Rattle.ffs_pathnames.specs.{declared.entry_texts.EntryTexts.EntryTexts}
 -- bytes, and none into the window of indirect blocks, where the place of each directory is noted
 abbrev pub ReadsByLines : Layout → (knows : List ℕ → Type 0) → (lines : List ℕ → List TreeMessage) →
     (old new : WorkMoment) → Type 0
-ReadsByLines v knows lines old new = (b : List ℕ) → knows b → AreNoted v b old.workspace.words.items
+ReadsByLines v knows lines old new = (b : List ℕ) → knows b → PlacesAreNoted v b old.workspace.words.items
     → ReadsFew (line_reads * length (lines b)) old.reads new.reads old.workspace new.workspace
 
 -- where the path of its directory is made, a message on an entry reads the path of the directory that the

@@ -3,7 +3,7 @@ use Rattle.std.specs.Prelude.{◌≡◌, ℕ, suc, ◌*◌, List}
 use Rattle.ffs_volume.specs.{declared.Layout.Layout, Directories.{PathnameCheck.directory_lines, Volumes.volume_of}}
 use Rattle.ffs_volume.specs.{Directories.PathnameCheck.{dir_header_lines, sized_dir_lines}, Messages.Kinds.TreeMessage}
 use Rattle.ffs_volume.specs.Costs.DirectoryReads.{directory_cost, directory_runs}
-use Rattle.ffs_pathnames.specs.{Before.KnowsBeforeNoted, Begins.IsDirectoryBegun, ChecksNeeded.KeepsFlags}
+use Rattle.ffs_pathnames.specs.{Before.KnowsBeforeWithPlaces, Begins.IsDirectoryBegun, ChecksNeeded.KeepsFlags}
 use Rattle.ffs_pathnames.specs.Sees.{passed_of}
 use Rattle.ffs_pathnames.specs.{PassedNames.{after_directory, directory_reported}, PassedRight.RemembersBefore}
 use Rattle.ffs_pathnames.specs.{Moments.LinesMoment, ReadsLeft.{KnowsForBoth, KnowsForLook, KnowsForNext, KnowsForRuns}}
@@ -24,7 +24,7 @@ check_task v dir old new = record {
   knows = KnowsForNext v old.at.image old.at.workspace dir old.kept.reads_left;
   own_reads = λ b. 2 * directory_cost v b dir;
   lines = λ b. directory_lines (volume_of v b) dir;
-  after = λ _ b. KnowsBeforeNoted v old.at.image.contents new.at.workspace (suc dir) b
+  after = λ _ b. KnowsBeforeWithPlaces v old.at.image.contents new.at.workspace (suc dir) b
       × KeepsFlags old.at.workspace new.at.workspace;
 }
 

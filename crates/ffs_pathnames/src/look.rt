@@ -7,7 +7,7 @@ ghost use Rattle.ffs_workspace.specs.Moments.{work_moment};
 ghost use Rattle.ffs_volume.specs.{Costs.DirectoryReads.{directory_cost, directory_runs}, declared.Order.Order};
 ghost use Rattle.ffs_volume.specs.{declared.Role.Role, Directories.{Entries.{Chunk, chunk_of, is_sound}, Roles.Volume}};
 ghost use Rattle.ffs_image.specs.Known.{ForBytes};
-ghost use Rattle.ffs_pathnames.specs.{KnowsNoted.{KnowsNoted, KnowsDirectory}};
+ghost use Rattle.ffs_pathnames.specs.{KnowsAtDirectory.{KnowsAtDirectory, KnowsDirectory}};
 ghost use Rattle.ffs_pathnames.specs.{ReadsLeft.KnowsForLook, DirectoryLooks.{IsChunksLook, IsFirstLook, LooksAt, StampsOwn}};
 ghost use Rattle.ffs_pathnames.specs.{DirectoryLooks.TakesLook, StartChunks.start_chunk, Looks.{StampsEntries, roled_in}};
 ghost use Rattle.ffs_pathnames.specs.{Ready.CanLookAt, Sees.{CanLook, CanStamp, Sees, stamps_in}};
@@ -79,7 +79,7 @@ pub fn look_directory<I: Image>(
         (work_moment I.Image image.old workspace.old) (work_moment I.Image image.new workspace.new)
         result }
     ensures cost { TakesLook
-        (KnowsNoted geometry.now.layout (I.device image.old).contents workspace.old dir)
+        (KnowsAtDirectory geometry.now.layout (I.device image.old).contents workspace.old dir)
         (λ b. directory_cost geometry.now.layout b dir)
         (I.reads image.old) (I.reads image.new) reads_left.old reads_left.new }
 {
@@ -103,13 +103,13 @@ fn look_directory_unlimited<I: Image>(
 ) -> Result<FirstLook, ImageFault>
     requires { CanLookAt geometry.now.layout (I.device image.old) workspace.old dir }
     ensures looks { LooksAt geometry.now.layout
-        (KnowsNoted geometry.now.layout (I.device image.old).contents workspace.old dir)
+        (KnowsAtDirectory geometry.now.layout (I.device image.old).contents workspace.old dir)
         (λ f b. IsFirstLook geometry.now.layout b dir workspace.old f start.new
         × StampsOwn geometry.now.layout b dir workspace.old workspace.new)
         (work_moment I.Image image.old workspace.old) (work_moment I.Image image.new workspace.new)
         result }
     ensures cost { ForBytes
-        (KnowsNoted geometry.now.layout (I.device image.old).contents workspace.old dir)
+        (KnowsAtDirectory geometry.now.layout (I.device image.old).contents workspace.old dir)
         (λ b. I.reads image.new ≤ I.reads image.old + directory_cost geometry.now.layout b dir) }
 {
     let inode = workspace

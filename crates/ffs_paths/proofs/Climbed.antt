@@ -4,7 +4,7 @@ use Rattle.std.proofs.Common.{arith, mul-le-mul_right, Option, Result, sym, ◌�
 use Rattle.ffs_workspace.specs.Moments.{WorkMoment}
 use Rattle.ffs_image.specs.declared.image.ImageFault.{ImageFault}
 use Rattle.ffs_volume.specs.Directories.{Graph.{Graph, level}, Paths.joined, Naming.graph_of, Volumes.volume_of}
-use Rattle.ffs_volume.{specs.{declared.Layout.Layout, Encodings.Places.IsNoted}, proofs.LevelLaws.reached-level}
+use Rattle.ffs_volume.{specs.{declared.Layout.Layout, Encodings.Places.PlaceIsNoted}, proofs.LevelLaws.reached-level}
 use Rattle.ffs_survey.proofs.ParentLaws.{root_level}
 use Rattle.ffs_workspace.specs.{Found.WithSurvey, Holds.{bool_at, HoldsSurvey}, declared.workspace.Workspace.Workspace}
 use Rattle.ffs_paths.specs.{Buffers.HoldsNames, Climbing.IsParentOf, Reads.{ForTree, KnowsPlaces, names_read, names_to, OnlyReads}}
@@ -44,14 +44,14 @@ climb_more name c room one some puts = grind (arith, few_then, joined-length, sh
 -- a place is noted of a directory other than the root that is reached
 pub noted_here : {v : Layout} {contents : Option (List ℕ)} {b : List ℕ} {w w' : Workspace} (k d : ℕ) →
     KnowsPlaces v contents w b → w' ≡ record w { windows = w'.windows } →
-    level (graph_of (volume_of v b)) d ≡ Some k → d ≢ 2 → IsNoted v b w'.words.items d
+    level (graph_of (volume_of v b)) d ≡ Some k → d ≢ 2 → PlaceIsNoted v b w'.words.items d
 noted_here {v = v} {b = b} zero d knows lists there n = absurd (n (root_level (graph_of (volume_of v b)) d there))
 noted_here {v = v} {b = b} (suc j) d knows lists there n = grind arith
 
 -- and so of one for which the survey found a parent
 pub noted_child : {v : Layout} {contents : Option (List ℕ)} {b : List ℕ} {w w' : Workspace} {d s : ℕ} →
     KnowsPlaces v contents w b → IsParentOf w d s → w' ≡ record w { windows = w'.windows } →
-    IsNoted v b w'.words.items d
+    PlaceIsNoted v b w'.words.items d
 noted_child {v = v} {b = b} {d = d} knows of lists = grind (arith, reached-level, noted_here)
 
 -- ---- a read for each name

@@ -5,7 +5,7 @@ use Rattle.ffs_image.specs.Device.{Device, ForContents}
 use Rattle.ffs_volume.specs.Directories.{Graph.{Graph, is_naming_entry, parent}, Paths.{dir_path, entry_path}}
 use Rattle.ffs_volume.specs.{declared.{Layout.Layout, constants.TheConstants.MAXPATHLEN}, Directories.Roles.RoledEntry}
 use Rattle.ffs_workspace.specs.{declared.workspace.Workspace.Workspace, Holds.bool_at}
-use Rattle.ffs_volume.specs.Encodings.Places.{IsNoted}
+use Rattle.ffs_volume.specs.Encodings.Places.{PlaceIsNoted}
 use Rattle.ffs_paths.specs.Reads.{ForTree}
 pub use Rattle.ffs_volume.specs.Encodings.Places.{name_in}
 
@@ -25,12 +25,12 @@ pub record FindsFirstName (x : ℕ) (entries : List RoledEntry) (text : List ℕ
 pub record FindsNoted (v : Layout) (d : Device) (w : Workspace) (dir : ℕ) (text : List ℕ) (result : Bool) : Type 0 where
   pub name : result ≡ true → ForTree v d w (λ g. (p : ℕ) → IsNameIn g dir p text)
   pub some : result ≡ true → 0 < length text
-  pub found : ForContents d.contents (λ b. IsNoted v b w.words.items dir → result ≡ true)
+  pub found : ForContents d.contents (λ b. PlaceIsNoted v b w.words.items dir → result ≡ true)
 
 -- the text is the name of the directory `dir` in its parent p, and isn't empty where its place is noted
 pub record FindsName (v : Layout) (d : Device) (w : Workspace) (dir p : ℕ) (text : List ℕ) : Type 0 where
   pub name : ForTree v d w (λ g. IsNameIn g dir p text)
-  pub some : ForContents d.contents (λ b. IsNoted v b w.words.items dir → 0 < length text)
+  pub some : ForContents d.contents (λ b. PlaceIsNoted v b w.words.items dir → 0 < length text)
 
 -- the survey found this parent of a directory that is reached and isn't the root
 pub record IsParentOf (w : Workspace) (dir parent : ℕ) : Type 0 where

@@ -5,7 +5,7 @@ use Rattle.ffs_image.specs.{Device.{Device, ForContents}, Known.IsContents, Read
 use Rattle.ffs_image.specs.declared.image.ImageFault.{ImageFault}
 use Rattle.ffs_volume.specs.{declared.{constants.TheConstants.MAXPATHLEN, Layout.Layout}, Directories.Graph.Graph}
 use Rattle.ffs_volume.specs.Directories.{Graph.level, Naming.graph_of, Paths.{longest_end, names_down}}
-use Rattle.ffs_volume.specs.{Directories.Volumes.volume_of, Encodings.Places.{AreNoted, IsNoted, part_size, part_in}}
+use Rattle.ffs_volume.specs.{Directories.Volumes.volume_of, Encodings.Places.{PlacesAreNoted, PlaceIsNoted, part_size, part_in}}
 use Rattle.ffs_volume.specs.Costs.DirectoryReads.{directory_cost}
 use Rattle.ffs_workspace.specs.{declared.workspace.Workspace.Workspace, Found.WithSurvey, Moments.WorkMoment}
 use Rattle.ffs_workspace.specs.{Ready.CanRead, Holds.{bool_at, HoldsBlockCheck, HoldsSurvey}}
@@ -67,7 +67,7 @@ pub record ReadsPlace {T : Type 0} (v : Layout) (dir : ℕ) (old new : WorkMomen
   pub counted : ReadsFew 1 old.reads new.reads old.workspace new.workspace
   pub again : HoldsPlaceOf v old.workspace dir → new.reads ≤ old.reads
   pub held : ForContents old.image.contents
-      (λ b. IsNoted v b old.workspace.words.items dir → OnOk result (HoldsPlaceOf v new.workspace dir))
+      (λ b. PlaceIsNoted v b old.workspace.words.items dir → OnOk result (HoldsPlaceOf v new.workspace dir))
 
 -- an image was asked for the part that is noted as the place of `dir`, once at most, and for nothing else
 abbrev pub AsksForPlace : {I : Type 0} → (was_read : I → ℕ → ℕ → I → Type 0) → Layout → Workspace → (dir : ℕ)
@@ -80,7 +80,7 @@ pub record ReadsName {T : Type 0} (v : Layout) (dir : ℕ) (old new : WorkMoment
     Type 0 where
   pub reads : OnlyReads v old.image new.image old.workspace new.workspace result
   pub counted : ForContents old.image.contents
-      (λ b. IsNoted v b old.workspace.words.items dir → ReadsPartOf v dir old new result)
+      (λ b. PlaceIsNoted v b old.workspace.words.items dir → ReadsPartOf v dir old new result)
 
 -- the image gives these bytes, the workspace holds what the block check and the survey leave, and
 -- it notes the place of each directory that is reached
@@ -88,7 +88,7 @@ pub record KnowsPlaces (v : Layout) (contents : Option (List ℕ)) (w : Workspac
   pub gives_bytes : IsContents contents b
   pub block_check : HoldsBlockCheck v b w
   pub survey : HoldsSurvey v b w
-  pub noted : AreNoted v b w.words.items
+  pub noted : PlacesAreNoted v b w.words.items
 
 -- so many reads were made at most, where each place is noted
 abbrev pub ReadsAtMost : Layout → (most : ℕ) → (old new : WorkMoment) → Type 0

@@ -1,6 +1,7 @@
 -- What a phase leaves of its image and of its report, by its answer. `knows` is what is known of
 -- the image's bytes: that the image gives them, and what the workspace holds of them. Where nothing
--- is known, messages were said, and of which is promised only that a phase's heading is the first.
+-- is known, some messages were said; of these it is promised only that the phase's heading is the
+-- first (`HeadingFirst`).
 use Rattle.std.specs.Prelude.{◌≡◌, ℕ, List, [], ◌∷◌, ◌++◌, Result, Ok, Err}
 use Rattle.ffs_image.specs.{Device.{Device, Faulted}, Known.ForBytes}
 use Rattle.ffs_volume.specs.Messages.Kinds.{Message}

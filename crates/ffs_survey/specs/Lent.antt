@@ -111,7 +111,7 @@ pub record KeepsLists (old new : FoundLists) : Type 0 where
   pub calm_long : vec_len new.calm.now ≡ vec_len old.calm.now
   pub queue_long : vec_len new.queue.now ≡ vec_len old.queue.now
 
--- no inode has more than `most` references
+-- no count of references is above `most`
 abbrev pub CountsAtMost : ℕ → Lists → Type 0
 CountsAtMost most l = (x : ℕ) → x < length l.kinds.now → number_at l.references.now.items x ≤ most
 
@@ -154,7 +154,7 @@ module _ {S : Type 0} (D : Ghosts S) where
     pub parents : (x : ℕ) → number_at l.parents.now.items x ≡ 0
     pub calm : (x : ℕ) → bool_at l.calm.now.items x ≡ false
 
-  -- the reader is ready, and no inode has more than `most` references
+  -- the reader is ready, and no count of references is above `most`
   pub record CanCount (most : ℕ) (reader : S) (l : Lists) : Type 0 where
     pub ready : D.ready reader
     pub counts : CountsAtMost most l

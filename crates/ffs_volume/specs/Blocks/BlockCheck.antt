@@ -39,7 +39,8 @@ lines_of_owners v s [] = []
 lines_of_owners v s (o ∷ os) = owner_lines v s o ++ lines_of_owners v (after_owner v s o) os
 
 -- a DUP for the first kept offer of each fragment that has a DUP in phase 1; `left` flags those of
--- which it is still to come. Where the fragment is reserved, phase 1 has reported that same offer already
+-- which it is still to come. Where the fragment is reserved, phase 1 has reported that same offer already:
+-- its line comes twice
 abbrev pub first_offer_lines : List Bool → List Offer → List BlockMessage
 first_offer_lines left [] = []
 first_offer_lines left (o ∷ os) =

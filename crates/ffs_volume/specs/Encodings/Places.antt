@@ -58,12 +58,12 @@ AreParts v b words = (x p k : ℕ) → part_in (slice_index words x) ≡ suc k
     → parent (graph_of (volume_of v b)) x ≡ Some p → IsPartOf v b p x k
 
 -- a place is noted of x: a part of the volume in which a plain entry names it
-pub record IsNoted (v : Layout) (b words : List ℕ) (x : ℕ) : Type 0 where
+pub record PlaceIsNoted (v : Layout) (b words : List ℕ) (x : ℕ) : Type 0 where
   pub part : ℕ
   pub place : part_in (slice_index words x) ≡ suc part
   pub inside : part_size v * part + part_size v ≤ v.size * v.fsize
   pub named : list_any (is_naming_entry x) (entries_in_part v b part) ≡ true
 
 -- a place is noted of each directory that is reached from the root and isn't the root
-abbrev pub AreNoted : Layout → List ℕ → (words : List ℕ) → Type 0
-AreNoted v b words = (x k : ℕ) → level (graph_of (volume_of v b)) x ≡ Some (suc k) → IsNoted v b words x
+abbrev pub PlacesAreNoted : Layout → List ℕ → (words : List ℕ) → Type 0
+PlacesAreNoted v b words = (x k : ℕ) → level (graph_of (volume_of v b)) x ≡ Some (suc k) → PlaceIsNoted v b words x

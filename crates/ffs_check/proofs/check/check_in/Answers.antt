@@ -4,7 +4,7 @@ use Rattle.ffs_volume.specs.{declared.End.End}
 use Rattle.ffs_report.specs.{Progress.Progress, Sink.Sink}
 use Rattle.ffs_check.specs.{Headline.Headline, Moment.{Moment, at_output, moment, report_moment}, Costs.CostsOfVolume}
 use Rattle.ffs_check.proofs.{Counting.{reads_failed, writes_failed}, Follows.{found_ends, not_refused}}
-use Rattle.ffs_check.proofs.{Headlines.opening_ends, Openings.opens_at}
+use Rattle.ffs_check.proofs.{Headlines.opening_ends, Openings.{opens_at, refused_once}}
 use Rattle.ffs_memory.specs.Account.{Account}
 use Rattle.ffs_check.proofs.{Reading.{found_within, opened_within}, Taken.{costs_of, opened_for_memory}}
 use Rattle.ffs_check.proofs.check.check_in.Goals as goal
@@ -61,6 +61,7 @@ pub returns-in-Err-clause-costs : goal.returns-in-Err-clause-costs
 returns-in-Err-clause-costs g c = record {
   most = inl (refl, c.in-Err.ensures.opens.answers.reads);
   refused = λ e. absurd (opened_for_memory _ _ _ _ _ c.in-Err.ensures.opens.opened e);
+  once = λ fault e. refused_once _ _ _ _ _ c.in-Err.ensures.opens.opened fault e;
 }
 
 pub returns-in-Ok-clause-costs : goal.returns-in-Ok-clause-costs
@@ -75,6 +76,7 @@ returns-in-Ok-clause-costs g c =
           c.in-Ok.superblock _ _ opens.opened opens.answers.inside_or_unreadable follows.memory.asked opens.answers.reads
           follows.reads.any) (search rules));
       refused = follows.memory.refused;
+      once = λ fault e. absurd (not_refused _ _ _ _ _ follows.followed e);
     }
 
 pub returns-in-Err-clause-reads : goal.returns-in-Err-clause-reads

@@ -22,7 +22,7 @@ use Rattle.ffs_claims.proofs.{Rescanned.indirect_noted, Rewalks.{runs_pay_all, r
 use Rattle.ffs_claims.proofs.IndirectReads.{read_begins, read_failed, read_failed_until, read_next, read_until}
 use Rattle.ffs_claims.proofs.{IndirectReads.read_failed_at, BeforeFaults.{fails_on, said_below}}
 use Rattle.ffs_claims.specs.{BeforeFault.dups_from_inode, Lines.of_lines, Phases.{WithNotes, phase1b_messages_for}}
-use Rattle.ffs_claims.specs.RescanRuns.{rescan_end}
+use Rattle.ffs_claims.specs.Rewalking.{rescan_end}
 use Rattle.ffs_claims.proofs.pass1b.phase1b_unlimited.Goals as goal
 
 pub returns-in_err-say-clause-again : goal.returns-in_err-say-clause-again

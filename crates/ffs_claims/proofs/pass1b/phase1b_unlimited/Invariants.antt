@@ -9,7 +9,7 @@ use Rattle.ffs_workspace.specs.{Found.WithPhase1, Ready.CanRead}
 use Rattle.ffs_claims.proofs.{IndirectReads.VolumeRead, Reportings.Reporting, Rescanned.{each_from, kept_from}}
 use Rattle.ffs_claims.{proofs.Rescanned.runs_from, specs.{Lines.of_lines, Moments.claim_moment, Phases.WithNotes}}
 use Rattle.ffs_claims.specs.{Phases.{kept_offers, phase1b_messages_for}, Reporting.{ClearsAsSaid, Phase1bKeeps}}
-use Rattle.ffs_claims.specs.RescanRuns.{RunsPay, rescan_end}
+use Rattle.ffs_claims.specs.Rewalking.{RunsPay, rescan_end}
 use Rattle.ffs_claims.proofs.pass1b.phase1b_unlimited.Given as goal
 
 abbrev pub invariant-loop-number : goal.invariant-loop-number

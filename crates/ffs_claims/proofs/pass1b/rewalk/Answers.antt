@@ -7,7 +7,7 @@ use Rattle.ffs_claims.proofs.{Duplicates.{none_first, none_left, some_left}, Fra
 use Rattle.ffs_claims.proofs.{Frames.ready_walked, Reportings.{lines_split, part_from, part_now, part_then}}
 use Rattle.ffs_claims.proofs.{Clearing.{clears_from, clears_none, clears_read, clears_then}, Rewalks.counted_most}
 use Rattle.ffs_claims.proofs.Rewalks.{rereads_on, rewalk_begins, rewalk_ends, rewalk_on, rewalk_over, runs_pay_on}
-use Rattle.ffs_claims.specs.{Lines.of_lines, RescanRuns.{indirect_among, offers_of_runs}}
+use Rattle.ffs_claims.specs.{Lines.of_lines, Rewalking.{indirect_among, offers_of_runs}}
 use Rattle.ffs_workspace.specs.declared.workspace.Windows.{Windows}
 use Rattle.ffs_claims.proofs.pass1b.rewalk.Goals as goal
 

@@ -5,7 +5,7 @@ use Rattle.ffs_image.specs.Known.{ForBytes, IsContents}
 use Rattle.ffs_maps.specs.Bits.{bits_of}
 use Rattle.ffs_walk.specs.{Counts.{AreHeld, unread}, SeenRuns.seen_runs_left, Rests.most_steps_left}
 use Rattle.ffs_claims.{proofs.Rewalks.{Rereads, Rewalking}, specs.{Lines.of_lines, Moments.claim_moment}}
-use Rattle.ffs_claims.specs.{Reporting.ClearsAsSaid, RescanRuns.{RunsPay, indirect_among, noted_runs, offers_of_runs}}
+use Rattle.ffs_claims.specs.{Reporting.ClearsAsSaid, Rewalking.{RunsPay, indirect_among, noted_runs, offers_of_runs}}
 use Rattle.ffs_claims.proofs.pass1b.rewalk.Given as goal
 
 abbrev pub invariant-loop-run : goal.invariant-loop-run

@@ -1,5 +1,5 @@
 use Rattle.ffs_claims.proofs.{Clearing.{clears_read, clears_none, clears_from}, Reportings.part_none}
-use Rattle.ffs_claims.specs.{Lines.of_lines, RescanRuns.{indirect_among, noted_runs, offers_of_runs}}
+use Rattle.ffs_claims.specs.{Lines.of_lines, Rewalking.{indirect_among, noted_runs, offers_of_runs}}
 use Rattle.std.proofs.Common.{◌∙◌, ap, arith, refl}
 use Rattle.ffs_report.proofs.Reporting.{reads_first, reports_knowing, reports_same}
 use Rattle.ffs_workspace.specs.Tables.{TakesPiece}

@@ -3,10 +3,10 @@ use Rattle.ffs_volume.specs.{Messages.Kinds.of_tree, Blocks.Inodes.inode_of, Dir
 use Rattle.ffs_volume.specs.Directories.{Naming.graph_of, PathnameCheck.{attributes, attributes_of, dir_header_lines}}
 use Rattle.ffs_volume.{specs.Directories.PathnameCheck.{header_defects, header_lines}, proofs.Results.fails_with}
 use Rattle.ffs_volume.specs.{Directories.Paths.dir_path, Report.Reads.line_reads, Costs.DirectoryReads.directory_cost}
-use Rattle.ffs_volume.specs.Encodings.Places.{AreNoted}
+use Rattle.ffs_volume.specs.Encodings.Places.{PlacesAreNoted}
 use Rattle.ffs_report.proofs.{Reporting.{of_begins, of_reads}, Paying.{paid_answer, paid_failed, paid_beside}}
 use Rattle.ffs_report.proofs.Paying.{paid_fault, paid_none, paid_then}
-use Rattle.ffs_pathnames.specs.{ReadsLeft.KnowsForLook, declared.look.FirstLook.FirstLook, KnowsNoted.KnowsNoted}
+use Rattle.ffs_pathnames.specs.{ReadsLeft.KnowsForLook, declared.look.FirstLook.FirstLook, KnowsAtDirectory.KnowsAtDirectory}
 use Rattle.ffs_pathnames.proofs.{Passing.knows_on, Begun.{said_same, fault_same, image_same, starts_are, begun_is}}
 use Rattle.ffs_pathnames.proofs.StampLaws.{windows_keep, keep_more, noted_kept}
 use Rattle.ffs_pathnames.proofs.directories.begin_directory.{Given.Over, Goals.After-report_header}
@@ -21,7 +21,7 @@ Known g c = KnowsForLook c.args.geometry.now.layout (g.I.Image.device c.args.ima
 
 -- what is known before the lines are printed
 known : (g : Over) (c : After-report_header g) (b : List ℕ) → Known g c b →
-    KnowsNoted c.args.geometry.now.layout (g.I.Image.device c.look_directory.new.image).contents
+    KnowsAtDirectory c.args.geometry.now.layout (g.I.Image.device c.look_directory.new.image).contents
     c.look_directory.new.workspace c.of.result.number b × (c.of.result ≡ attributes_of c.of.result.number
     (inode_of c.args.geometry.now.layout b c.of.result.number))
 known g c b k = rw c.of.ensures (
@@ -48,7 +48,7 @@ lines_are g c b k =
 
 -- the reads
 reads_few : (g : Over) (c : After-report_header g) (b : List ℕ) → Known g c b →
-    AreNoted c.args.geometry.now.layout b c.args.workspace.now.words.items →
+    PlacesAreNoted c.args.geometry.now.layout b c.args.workspace.now.words.items →
     g.I.Image.reads c.report_header.new.image ≤ g.I.Image.reads c.args.image.now
     + (directory_cost c.args.geometry.now.layout b c.args.dir
     + line_reads * length (dir_header_lines (volume_of c.args.geometry.now.layout b) c.args.dir))

@@ -8,7 +8,7 @@ use Rattle.ffs_report.proofs.Reporting.{of_begins, of_same, of_part, of_fault, o
 use Rattle.ffs_report.proofs.Paying.{paid_failed, paid_none, paid_then, paid_within}
 use Rattle.ffs_workspace.proofs.Leaving.{claims_left, findings_claims, words_leave, survey_left}
 use Rattle.ffs_pathnames.proofs.Findings.{findings_kept, findings_more, findings_noted}
-use Rattle.ffs_pathnames.{specs.Before.{KnowsBeforeNoted, KnowsBefore}, proofs.{Begun.image_same, Carrying.noted_reported}}
+use Rattle.ffs_pathnames.{specs.Before.{KnowsBeforeWithPlaces, KnowsBefore}, proofs.{Begun.image_same, Carrying.noted_reported}}
 use Rattle.ffs_pathnames.{proofs.Skipping.{noted_before, unseen}, specs.ReadsLeft.KnowsForNext}
 use Rattle.ffs_pathnames.proofs.{directories.check_directories.{Given.Over, Goals.After-check_if_needed}, ChecksNeededLaws.flags_kept}
 use Rattle.ffs_pathnames.proofs.ChecksNeededLaws.{look_next, looked_at_next, places_noted}
@@ -104,7 +104,7 @@ loop-number-preserved g c =
           let kept = ok.spends b (next g at b k) in
           omega (arith, inv.left b k, taken, kept);
       paid = paid_then inv.paid ok.paid;
-      before = λ b k. subst (λ d. KnowsBeforeNoted v (g.I.Image.device c.args.image.now).contents c.check_if_needed.new.workspace d
+      before = λ b k. subst (λ d. KnowsBeforeWithPlaces v (g.I.Image.device c.args.image.now).contents c.check_if_needed.new.workspace d
           b) q
           (noted_reported (sym (ap (λ d. d.contents) inv.device)) (ok.holds b (next g at b k)).0);
       said = of_part inv.said

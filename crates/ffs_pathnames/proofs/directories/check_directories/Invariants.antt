@@ -5,7 +5,7 @@ use Rattle.ffs_volume.specs.{Messages.Kinds.{of_tree, lines_from}, Report.Reads.
 use Rattle.ffs_volume.specs.{Directories.{PathnameCheck.directory_lines, Volumes.volume_of}, Blocks.Inodes.inodes_of}
 use Rattle.ffs_volume.specs.Costs.DirectoryReads.{is_looked_at, places_cost, costs_all, costs_below, directories_cost}
 use Rattle.ffs_volume.specs.Costs.DirectoryReads.{directory_cost}
-use Rattle.ffs_pathnames.specs.{ChecksNeeded.ChecksLookedAt, Ready.CanMakePaths, Before.{KnowsBefore, KnowsBeforeNoted}}
+use Rattle.ffs_pathnames.specs.{ChecksNeeded.ChecksLookedAt, Ready.CanMakePaths, Before.{KnowsBefore, KnowsBeforeWithPlaces}}
 use Rattle.ffs_workspace.specs.Leaves.{LeavesAllButPlaces}
 use Rattle.ffs_pathnames.proofs.directories.check_directories.Given as goal
 
@@ -33,7 +33,7 @@ invariant-loop-number g l =
       paid : Paid {T = Unit {0}} line_reads (progress g.W.Output.sink l.fn.report)
           (progress g.W.Output.sink l.report) (g.I.Image.reads l.fn.image + 3 * sweep_reads v)
           (g.I.Image.reads l.image + l.checking.reads_left) (Ok tt);
-      before : ForBytes known (λ b. KnowsBeforeNoted v (g.I.Image.device l.fn.image).contents l.workspace l.number b);
+      before : ForBytes known (λ b. KnowsBeforeWithPlaces v (g.I.Image.device l.fn.image).contents l.workspace l.number b);
       said : SaidOf known (λ b. map of_tree (to_come b)) (λ b. map of_tree (all b))
           (progress g.W.Output.sink l.fn.report) (progress g.W.Output.sink l.report);
     }

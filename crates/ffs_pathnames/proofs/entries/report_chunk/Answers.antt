@@ -3,8 +3,8 @@ use Rattle.ffs_volume.{specs.{Directories.Volumes.volume_of, Messages.Kinds.of_t
 use Rattle.ffs_layout.specs.Entry.{entry_value}
 use Rattle.ffs_report.proofs.Reporting.{of_begins, of_same, of_part, of_fault, said_knows, reports_knowing}
 use Rattle.ffs_report.proofs.Paying.{paid_none, paid_then}
-use Rattle.ffs_pathnames.specs.{PassedNames.{after_entries, entries_reported}, Sees.passed_of, KnowsNoted.KnowsNoted}
-use Rattle.ffs_pathnames.{specs.KnowsNoted.KnowsPath, proofs.{ReadyLaws.leaves_after, StampLaws.keep_more}}
+use Rattle.ffs_pathnames.specs.{PassedNames.{after_entries, entries_reported}, Sees.passed_of, KnowsAtDirectory.KnowsAtDirectory}
+use Rattle.ffs_pathnames.{specs.KnowsAtDirectory.KnowsPath, proofs.{ReadyLaws.leaves_after, StampLaws.keep_more}}
 use Rattle.ffs_pathnames.proofs.{StampLaws.noted_kept, Passing.{knows_on, entry_reported, entry_passed}}
 use Rattle.ffs_pathnames.proofs.LineCounts.{entry_counted, has_begun, read_all, read_more}
 use Rattle.ffs_pathnames.proofs.entries.report_chunk.{Given.Over, Goals.After-role_of}
@@ -20,9 +20,9 @@ next g c = roled_on c.args.chunk.now.at_start c.role_of.result c.in-Some.ensures
 
 -- what is known there
 know : (g : Over) (c : After-role_of g) (b : List ℕ) →
-    KnowsNoted c.args.geometry.now.layout (g.I.Image.device c.args.image.now).contents c.args.workspace.now
+    KnowsAtDirectory c.args.geometry.now.layout (g.I.Image.device c.args.image.now).contents c.args.workspace.now
     c.args.chunk.now.dir b →
-    KnowsNoted c.args.geometry.now.layout (g.I.Image.device c.entries.image).contents c.entries.workspace
+    KnowsAtDirectory c.args.geometry.now.layout (g.I.Image.device c.entries.image).contents c.entries.workspace
     c.args.chunk.now.dir b
 know g c b k =
     let inv = c.entries.invariant in

@@ -9,7 +9,7 @@ use Rattle.ffs_workspace.proofs.Leaving.{leaves_all, leaves_more, windows_leave}
 use Rattle.ffs_names.{specs.{Readings.rest, Costs.{to_read, HoldsReading}}, proofs.DirCosts.runs_are}
 use Rattle.ffs_report.proofs.Reporting.{of_begins, of_reads, of_same, of_part, of_fault, said_knows, reports_knowing}
 use Rattle.ffs_report.proofs.Paying.{paid_beside, paid_failed, paid_none, paid_then, paid_within}
-use Rattle.ffs_pathnames.specs.{KnowsNoted.KnowsNoted, PassedNames.{after_entries, entries_reported}, Sees.passed_of}
+use Rattle.ffs_pathnames.specs.{KnowsAtDirectory.KnowsAtDirectory, PassedNames.{after_entries, entries_reported}, Sees.passed_of}
 use Rattle.ffs_pathnames.proofs.{StampLaws.{keep_more, noted_kept}, Passing.{chunk_reported, chunk_passed, knows_on}}
 use Rattle.ffs_pathnames.proofs.{Passing.all_read, ReadyLaws.{can_read_in, leaves_after, windows_next, windows_read}}
 use Rattle.ffs_pathnames.{specs.ReadsLeft.KnowsForRuns, proofs.{LineCounts.lines_long, SeesLaws.cut_here}}
@@ -44,7 +44,7 @@ kept_between g c = leaves_more c.chunks.invariant.survey (windows_leave c.chunks
 
 -- what is known there
 know : (g : Over) (c : After-next_chunk g) → g.I.Image.device c.next_chunk.new.image ≡ g.I.Image.device c.chunks.image →
-    (b : List ℕ) → Known g c b → KnowsNoted c.args.geometry.now.layout
+    (b : List ℕ) → Known g c b → KnowsAtDirectory c.args.geometry.now.layout
     (g.I.Image.device c.next_chunk.new.image).contents (between g c) c.args.directory.now.number b
 know g c read b k = knows_on c.args.geometry.now.layout (g.I.Image.device c.args.image.now).contents
     (g.I.Image.device c.next_chunk.new.image).contents c.args.workspace.now (between g c) c.args.directory.now.number b

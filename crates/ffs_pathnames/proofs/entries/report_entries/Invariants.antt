@@ -1,9 +1,9 @@
 use Rattle.std.{proofs.Common.{◌≡◌, ℕ, List, map, ◌+◌, ◌*◌, ◌≤◌, length, Ok}, specs.List.flat_map}
 use Rattle.ffs_volume.specs.{Messages.Kinds.of_tree, Report.Reads.{line_reads, path_reads}, Directories.Naming.graph_of}
 use Rattle.ffs_volume.specs.Directories.{Roles.{roled_chunk, roled_entries}, Volumes.volume_of}
-use Rattle.ffs_volume.specs.{Costs.DirectoryReads.directory_runs, Encodings.Places.AreNoted}
+use Rattle.ffs_volume.specs.{Costs.DirectoryReads.directory_runs, Encodings.Places.PlacesAreNoted}
 use Rattle.ffs_pathnames.specs.{LineReads.{again_reads, path_owed}, Ready.CanMakePaths, Sees.passed_of}
-use Rattle.ffs_pathnames.specs.{Stamps.KeepParts, KnowsNoted.BeginsPathOf, ReadsLeft.KnowsForRuns}
+use Rattle.ffs_pathnames.specs.{Stamps.KeepParts, KnowsAtDirectory.BeginsPathOf, ReadsLeft.KnowsForRuns}
 use Rattle.ffs_pathnames.specs.PassedNames.{after_entries, entries_reported}
 use Rattle.ffs_report.specs.{Paid.Paid, PhaseOutcome.SaidOf, Progress.progress}
 use Rattle.ffs_image.specs.Known.{ForBytes}
@@ -31,12 +31,12 @@ invariant-chunks g l =
       passed : ForBytes known (λ b.
           after_entries (volume_of v b) x.number (passed_of l.fn.workspace) (roled_entries (volume_of v b) x.number)
           ≡ after_entries (volume_of v b) x.number (passed_of l.workspace) (flat_map roled_chunk (rest b l.chunks)));
-      held : ForBytes known (λ b. AreNoted v b l.fn.workspace.words.items →
+      held : ForBytes known (λ b. PlacesAreNoted v b l.fn.workspace.words.items →
           HoldsReading l.workspace.windows.blocks l.workspace.windows.current l.chunks);
-      reads : ForBytes known (λ b. AreNoted v b l.fn.workspace.words.items →
+      reads : ForBytes known (λ b. PlacesAreNoted v b l.fn.workspace.words.items →
           g.I.Image.reads l.image + to_read b l.chunks + line_reads * length (to_come b)
           ≤ g.I.Image.reads l.fn.image + (directory_runs v b x.number + line_reads * length (all b)));
-      once : ForBytes known (λ b. AreNoted v b l.fn.workspace.words.items → g.I.Image.reads l.image
+      once : ForBytes known (λ b. PlacesAreNoted v b l.fn.workspace.words.items → g.I.Image.reads l.image
           + to_read b l.chunks + (path_owed l.checking.texts + again_reads * length (to_come b))
           ≤ g.I.Image.reads l.fn.image
           + (directory_runs v b x.number + (path_reads + again_reads * length (all b))));

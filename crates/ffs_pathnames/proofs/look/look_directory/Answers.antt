@@ -2,7 +2,7 @@ use Rattle.std.proofs.{Common.{◌∙◌, ◌≡◌, ◌≤◌, ◌+◌, ℕ, Li
 use Rattle.ffs_image.{specs.{Limited.reads_asked}, proofs.Limits.read_over}
 use Rattle.ffs_workspace.proofs.Readiness.{can_read_same}
 use Rattle.ffs_volume.specs.Costs.DirectoryReads.{directory_cost}
-use Rattle.ffs_pathnames.specs.KnowsNoted.{KnowsNoted}
+use Rattle.ffs_pathnames.specs.KnowsAtDirectory.{KnowsAtDirectory}
 use Rattle.ffs_pathnames.proofs.{LimitedLaws.{LookedBy, looked}, look.look_directory.{Given.Over, Goals.After-is_spent}}
 use Rattle.ffs_pathnames.proofs.look.look_directory.Goals as goal
 
@@ -20,20 +20,20 @@ after g c =
     c.is_spent.ensures.below
 
 -- what is known of the bytes is known of those of the limited image
-known : (g : Over) (c : After-is_spent g) (b : List ℕ) → KnowsNoted c.args.geometry.now.layout
+known : (g : Over) (c : After-is_spent g) (b : List ℕ) → KnowsAtDirectory c.args.geometry.now.layout
     (g.I.Image.device c.args.image.now).contents c.args.workspace.now c.args.dir b →
-    KnowsNoted c.args.geometry.now.layout (g.I.Image.device c.new-limited.result.begins.value).contents
+    KnowsAtDirectory c.args.geometry.now.layout (g.I.Image.device c.new-limited.result.begins.value).contents
     c.args.workspace.now c.args.dir b
 known g c b k = grind arith
 
 -- no read of known bytes is refused
-answered : (g : Over) (c : After-is_spent g) (b : List ℕ) → KnowsNoted c.args.geometry.now.layout
+answered : (g : Over) (c : After-is_spent g) (b : List ℕ) → KnowsAtDirectory c.args.geometry.now.layout
     (g.I.Image.device c.args.image.now).contents c.args.workspace.now c.args.dir b →
     directory_cost c.args.geometry.now.layout b c.args.dir ≤ c.args.reads_left.now → c.is_spent.result ≡ false
 answered g c b k enough = grind arith
 
 -- the reads that it made, and those that are left
-taken : (g : Over) (c : After-is_spent g) (b : List ℕ) → KnowsNoted c.args.geometry.now.layout
+taken : (g : Over) (c : After-is_spent g) (b : List ℕ) → KnowsAtDirectory c.args.geometry.now.layout
     (g.I.Image.device c.args.image.now).contents c.args.workspace.now c.args.dir b →
     (g.I.Image.reads c.look_directory_unlimited-looked.new.image.below.now
     ≤ g.I.Image.reads c.args.image.now + directory_cost c.args.geometry.now.layout b c.args.dir)

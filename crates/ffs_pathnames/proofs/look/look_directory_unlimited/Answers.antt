@@ -1,12 +1,12 @@
 use Rattle.std.proofs.{Common.{◌≤◌, ◌+◌, ◌∙◌, ap, arith, refl, ℕ, List}}
 use Rattle.ffs_workspace.proofs.Leaving.{claims_held, survey_held}
 use Rattle.ffs_volume.specs.Costs.DirectoryReads.{directory_cost}
-use Rattle.ffs_pathnames.{specs.KnowsNoted.{KnowsNoted, KnowsDirectory}}
+use Rattle.ffs_pathnames.{specs.KnowsAtDirectory.{KnowsAtDirectory, KnowsDirectory}}
 use Rattle.ffs_pathnames.proofs.look.look_directory_unlimited.{Given.Over, Goals.After-look_chunks}
 use Rattle.ffs_pathnames.proofs.look.look_directory_unlimited.Goals as goal
 
 -- what is known of the directory once its inode is read
-known : (g : Over) (c : After-look_chunks g) (b : List ℕ) → KnowsNoted c.args.geometry.now.layout
+known : (g : Over) (c : After-look_chunks g) (b : List ℕ) → KnowsAtDirectory c.args.geometry.now.layout
     (g.I.Image.device c.args.image.now).contents c.args.workspace.now c.args.dir b →
     KnowsDirectory c.args.geometry.now.layout (g.I.Image.device c.inode_by_piece.new.image)
     (record c.args.workspace.now
@@ -25,7 +25,7 @@ known g c b k =
     )
 
 -- the reads
-reads_few : (g : Over) (c : After-look_chunks g) (b : List ℕ) → KnowsNoted c.args.geometry.now.layout
+reads_few : (g : Over) (c : After-look_chunks g) (b : List ℕ) → KnowsAtDirectory c.args.geometry.now.layout
     (g.I.Image.device c.args.image.now).contents c.args.workspace.now c.args.dir b →
     g.I.Image.reads c.look_chunks.new.image
     ≤ g.I.Image.reads c.args.image.now + directory_cost c.args.geometry.now.layout b c.args.dir

@@ -3,7 +3,7 @@ use Rattle.ffs_volume.specs.Directories.{PathnameCheck.extra_lines, Volumes.volu
 use Rattle.ffs_layout.specs.Entry.{entry_value}
 use Rattle.ffs_pathnames.proofs.{EntryReports.{entry_unread, entry_said, entry_stopped}, LineCounts.extra_some}
 use Rattle.ffs_pathnames.proofs.one_entry.report_extra.{Given.Over, Goals.{After-gather_extra, After-say_extra}}
-use Rattle.ffs_pathnames.specs.{KnowsNoted.KnowsPath, Gathers.extra_reported}
+use Rattle.ffs_pathnames.specs.{KnowsAtDirectory.KnowsPath, Gathers.extra_reported}
 use Rattle.ffs_pathnames.proofs.one_entry.report_extra.Goals as goal
 
 some_line : (g : Over) (c : After-gather_extra g) (b : List ℕ) →

@@ -3,13 +3,13 @@ use Rattle.ffs_volume.specs.{Messages.Kinds.of_tree, Directories.{Volumes.volume
 use Rattle.ffs_volume.{specs.Directories.PathnameCheck.verdict_lines, proofs.VerdictLaws.{silent_lines, some_lines}}
 use Rattle.ffs_layout.specs.Entry.{entry_value}
 use Rattle.ffs_report.proofs.{Paying.paid_none, Reporting.says_none}
-use Rattle.ffs_pathnames.specs.{Gathers.plain_lines_by, KnowsNoted.{KnowsNoted, KnowsPath}}
+use Rattle.ffs_pathnames.specs.{Gathers.plain_lines_by, KnowsAtDirectory.{KnowsAtDirectory, KnowsPath}}
 use Rattle.ffs_pathnames.proofs.{LineCounts.few_none, EntryReports.{entry_unread, entry_said, entry_stopped}}
 use Rattle.ffs_pathnames.proofs.one_entry.report_plain.{Given.Over, Goals.{After-gather_entry, After-say_verdict}}
 use Rattle.ffs_pathnames.proofs.one_entry.report_plain.Goals as goal
 
 -- a verdict that isn't silent has a line
-some_line : (g : Over) (c : After-gather_entry g) (b : List ℕ) → KnowsNoted c.args.geometry.now.layout
+some_line : (g : Over) (c : After-gather_entry g) (b : List ℕ) → KnowsAtDirectory c.args.geometry.now.layout
     (g.I.Image.device c.args.image.now).contents c.args.workspace.now c.args.entry.now.dir b →
     1 ≤ length (plain_lines_by (volume_of c.args.geometry.now.layout b) c.args.workspace.now c.args.entry.now)
 some_line g c b k = grind arith
