@@ -88,7 +88,7 @@ module _ (image : Device) (before : ℕ) (name : List ℕ) (sector : Option ℕ)
           }
 
     module _ (fault : SuperFault) (answers : ReadsSuper image image' sector (Err fault))
-      (once : may_read_copy (Err fault) ≡ false → after ≤ before + 1) where
+        (once : may_read_copy (Err fault) ≡ false → after ≤ before + 1) where
       pub refused : Said head new (fault_line fault ∷ []) →
           OpeningOf name sector (output_at image before old) (output_at image' after new) (Err (Refused fault))
       refused more =
@@ -130,7 +130,7 @@ opened name sector s old head new fresh said more =
           ∙ no_defect_head name sector (super_lines s);
     }
 
--- an opening that ends as refused, where the layout has a fault
+-- an opening that ends as refused for the superblock's own fields
 pub refused_once : (name : List ℕ) (sector : Option ℕ) (old new : Moment) (end : End) →
     OpeningOf name sector old new (Err end) → (fault : SuperFault) → end ≡ Refused fault →
     may_read_copy (Err fault) ≡ false → new.reads ≤ old.reads + 1

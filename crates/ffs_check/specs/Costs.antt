@@ -15,7 +15,7 @@ pub record CostsOfVolume (asked_sector : Option ℕ) (old new : Moment) (before 
   pub reads : ReadsByMessages (reads_limit asked_sector memory.found.layout) old new
 
 -- nothing is taken, and the superblock and a copy alone are read; or a volume is accepted. A check ends as
--- `NoMemory` only where a request was refused; and a superblock whose layout has a fault is read once
+-- `NoMemory` only where a request was refused; and a superblock that is refused for its own fields is read once
 pub record Costs (asked_sector : Option ℕ) (old new : Moment) (before after : Account) (end : End) : Type 0 where
   pub most : ((after ≡ before) × (new.reads ≤ old.reads + opening_reads asked_sector))
       ⊎ CostsOfVolume asked_sector old new before after

@@ -46,7 +46,7 @@ OpeningEnds name asked_sector old new found (Err end) =
     ⊎ OpeningBrokeInLine name asked_sector old new found end)
 
 -- a superblock or a fault was found, as the image has it; its opening went out, or the output failed in it. One read is
--- made at most where the layout has a fault
+-- made at most where it is refused for its own fields
 pub record OpeningOf (name : List ℕ) (asked_sector : Option ℕ) (old new : Moment) (result : Result Super End) :
     Type 0 where
   pub found : Result Superblock SuperFault

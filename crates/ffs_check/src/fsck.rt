@@ -36,6 +36,7 @@ impl Program for Fsck {
         }
     }
 
+    // What it promises is `IsChecked` (specs/Fsck): the clauses of `check`, and the status of its end.
     fn carry_out<I: Image, W: Output>(
         alloc: Global,
         image: &mut I,

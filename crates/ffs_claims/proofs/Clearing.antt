@@ -2,7 +2,7 @@
 use Rattle.std.proofs.Common.{◌≡◌, ◌≤◌, ◌+◌, ℕ, Bool, true, false, List, [], ◌∷◌, ◌++◌, length, slice_set, inl, inr}
 use Rattle.std.proofs.Common.{arith, refl, sym, ap, subst, ◌∙◌, length-append, if◌then◌else◌, Result, Ok, Err}
 use Rattle.std.proofs.{Math.ListN.get_or-eq_default, lemmas.{Bool.{cases_Bool, cases_lt, true≢false}, List.Sums.sum_by-set}}
-use Rattle.ffs_volume.specs.Blocks.{BlockCheck.{after_first, first_offer_lines, set_count}, Claims.is_set, KeptOffers.Offer}
+use Rattle.ffs_volume.specs.Blocks.{BlockCheck.{unreported_after, first_offer_lines, set_count}, Claims.is_set, KeptOffers.Offer}
 use Rattle.ffs_volume.specs.Messages.Kinds.{Message}
 use Rattle.ffs_report.specs.{Progress.{Said, Stopped}, declared.fault.RunFault.RunFault}
 use Rattle.ffs_report.{proofs.Reports.{said_none, said_then}, specs.declared.fault.RunFault.TheVariants.{Out, Read}}
@@ -21,7 +21,7 @@ one_less bits f h = elim (cases_lt f (length bits)) [
 
 -- offers that are gone over have a line for each fragment that stops being to report
 pub line_for_each : (dup : List Bool) (os : List Offer) →
-    set_count dup ≡ set_count (after_first dup os) + length (of_lines (first_offer_lines dup os))
+    set_count dup ≡ set_count (unreported_after dup os) + length (of_lines (first_offer_lines dup os))
 line_for_each dup [] = omega arith
 line_for_each dup (o ∷ os) = elim (cases_Bool (is_set dup o.fragment)) [
   | inl set ↦

@@ -4,7 +4,7 @@ use Rattle.std.proofs.Common.{◌++◌, length, length-set, slice_set, nat_lt, a
 use Rattle.std.proofs.{Math.ListN.get_or-eq_default, lemmas.Bool.{cases_Bool, cases_eq, cases_lt, Decides.nat_tests}}
 use Rattle.std.{proofs.lemmas.List.{get_or-set_other, get_or-set_same, Folds.list_any-append}, specs.List.list_any}
 use Rattle.std.specs.List.{range_with_len}
-use Rattle.ffs_volume.specs.Blocks.{BlockCheck.{after_first, set_count}, Owners.{Owner, owners_of}, Claims.Claims}
+use Rattle.ffs_volume.specs.Blocks.{BlockCheck.{unreported_after, set_count}, Owners.{Owner, owners_of}, Claims.Claims}
 use Rattle.ffs_volume.specs.Blocks.Claims.{after_offer, after_offers, after_owner, after_owners, after_run, after_step}
 use Rattle.ffs_volume.specs.Blocks.Claims.{after_steps, all_claims, at_next_inode, is_set, no_claims}
 use Rattle.ffs_volume.specs.Blocks.KeptOffers.{Offer, kept_in_offers, kept_in_owners, kept_in_run, kept_in_step}
@@ -82,7 +82,7 @@ module _ (f : ℕ) where
     before : is_set dup f ≡ true
     none : has_offer f os ≡ false
 
-  left_is : (dup : List Bool) (os : List Offer) → is_set (after_first dup os) f ≡ true → IsLeft dup os
+  left_is : (dup : List Bool) (os : List Offer) → is_set (unreported_after dup os) f ≡ true → IsLeft dup os
   left_is dup [] left = record { before = left; none = refl }
   left_is dup (o ∷ os) left =
       let more = left_is (if is_set dup o.fragment then slice_set dup o.fragment false else dup) os left in
@@ -105,7 +105,7 @@ unfolding all_claims no_claims
 all_reported v bytes old new h t =
     let os = kept_in_owners v (no_claims v) (owners_of v bytes) in
     let dup = (all_claims v bytes).duplicates in
-    let clear : (f : ℕ) → is_set (after_first dup os) f ≡ false = λ f. elim (cases_Bool (is_set (after_first dup os) f)) [
+    let clear : (f : ℕ) → is_set (unreported_after dup os) f ≡ false = λ f. elim (cases_Bool (is_set (unreported_after dup os) f)) [
       | inl left ↦
           let is = left_is f dup os left in
           let has = (covers_owners f v (no_claims v) (owners_of v bytes)).has is.before in
@@ -113,6 +113,6 @@ all_reported v bytes old new h t =
           absurd (grind arith)
       | inr none ↦ none
     ] in
-    let now = t.duplicates ∙ ap (λ d. after_first d os) h.duplicates in
-    let count : set_count (bits_of new.duplicates) ≡ 0 = ap set_count now ∙ none_set (after_first dup os) clear in
+    let now = t.duplicates ∙ ap (λ d. unreported_after d os) h.duplicates in
+    let count : set_count (bits_of new.duplicates) ≡ 0 = ap set_count now ∙ none_set (unreported_after dup os) clear in
     rw count refl

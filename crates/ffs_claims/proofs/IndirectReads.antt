@@ -9,7 +9,7 @@ use Rattle.ffs_volume.specs.{Costs.VolumeReads.volume_scan_reads, Laws.Geometry.
 use Rattle.ffs_volume.specs.declared.{Class.TheVariants.Free, Layout.Layout, Step.{Step, TheVariants.Gap}}
 use Rattle.ffs_volume.{proofs.OwnerLaws.before_next, specs.Blocks.KeptSteps.claims_before}
 use Rattle.ffs_image.specs.Known.{ForBytes}
-use Rattle.ffs_walk.specs.{Counts.entered, HeldWords.word_step, Rests.steps_left, declared.walk.Walk.Walk}
+use Rattle.ffs_walk.specs.{Counts.indirect_in_step, HeldWords.word_step, Rests.steps_left, declared.walk.Walk.Walk}
 use Rattle.ffs_workspace.specs.{Tables.{HoldsInode, HoldsPiece}, declared.table.Table.Table}
 use Rattle.ffs_claims.proofs.{Inodes.free_steps, FreeInodes.{AreFree, free_claims}, TableReads.{BlocksRead, blocks_all}}
 use Rattle.ffs_claims.proofs.TableReads.{blocks_failed, blocks_failed_until, blocks_later, blocks_next, blocks_until}
@@ -37,7 +37,7 @@ step_on v s next now = ap (indirect_in_steps v s) next ∙ rw now refl
 pub indirect_on : {knows : List ℕ → Type 0} {s' : Claims} (v : Layout) (s : Claims) (x y : Walk) (step : Step) →
     is_open s ≡ true → ForBytes knows (λ bytes. steps_left bytes x ≡ step ∷ steps_left bytes y) →
     s' ≡ after_step v s step → ForBytes knows (λ bytes. indirect_in_steps v s (steps_left bytes x)
-    ≡ entered step + indirect_in_steps v s' (steps_left bytes y))
+    ≡ indirect_in_step step + indirect_in_steps v s' (steps_left bytes y))
 indirect_on {s'} v s x y step uncut next now = grind arith
 
 -- ---- inode by inode

@@ -3,7 +3,7 @@ use Rattle.std.proofs.Common.{◌≡◌, append_assoc, append-nil, ℕ, ◌+◌,
 use Rattle.std.proofs.{Common.{List, [], ◌∷◌, ◌++◌, map, slice_set, arith, refl, ap, ◌∙◌, sym}}
 use Rattle.std.{proofs.{Math.Bool.or-false, lemmas.List.Folds.list_any-append}, specs.List.range_with_len}
 use Rattle.ffs_volume.specs.Blocks.{BlockCheck.first_offer_lines, Claims.is_set, KeptOffers.{Offer, offer_of}}
-use Rattle.ffs_volume.specs.Blocks.BlockCheck.{set_count, after_first}
+use Rattle.ffs_volume.specs.Blocks.BlockCheck.{set_count, unreported_after}
 use Rattle.ffs_maps.specs.Bits.{bits_of}
 use Rattle.ffs_workspace.specs.{declared.workspace.Workspace.Workspace}
 use Rattle.ffs_claims.proofs.{Duplicates.{none_clear, none_first}, StepsContinue.{range_next, lines_append}}
@@ -11,7 +11,7 @@ use Rattle.ffs_claims.specs.{Lines.of_lines, Reporting.{OffersReported, Reported
 
 -- offers one after the other
 pub first_append : (dup : List Bool) (xs ys : List Offer) → first_offer_lines dup (xs ++ ys) ≡ first_offer_lines dup xs
-    ++ first_offer_lines (after_first dup xs) ys
+    ++ first_offer_lines (unreported_after dup xs) ys
 first_append dup [] ys = refl
 first_append dup (o ∷ xs) ys =
     let left = first_append (slice_set dup o.fragment false) xs ys in
@@ -19,18 +19,18 @@ first_append dup (o ∷ xs) ys =
     grind arith
 
 pub after_append : (dup : List Bool) (xs ys : List Offer) →
-    after_first dup (xs ++ ys) ≡ after_first (after_first dup xs) ys
+    unreported_after dup (xs ++ ys) ≡ unreported_after (unreported_after dup xs) ys
 after_append dup [] ys = refl
 after_append dup (o ∷ xs) ys = after_append (if is_set dup o.fragment then slice_set dup o.fragment false else dup) xs
     ys
 
 -- the lines of two parts
-pub lines_split : (dup dup' : List Bool) (os xs ys : List Offer) → os ≡ xs ++ ys → dup' ≡ after_first dup xs →
+pub lines_split : (dup dup' : List Bool) (os xs ys : List Offer) → os ≡ xs ++ ys → dup' ≡ unreported_after dup xs →
     of_lines (first_offer_lines dup os) ≡ of_lines (first_offer_lines dup xs) ++ of_lines (first_offer_lines dup' ys)
 lines_split dup dup' os xs ys e d = grind (arith, first_append, lines_append)
 
 -- nothing is left to report
-pub none_after : (bits : List Bool) (os : List Offer) → set_count bits ≡ 0 → after_first bits os ≡ bits
+pub none_after : (bits : List Bool) (os : List Offer) → set_count bits ≡ 0 → unreported_after bits os ≡ bits
 none_after bits [] e = refl
 none_after bits (o ∷ os) e = rw (none_clear bits o.fragment e) (none_after bits os e)
 

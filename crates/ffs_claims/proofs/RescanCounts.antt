@@ -11,7 +11,7 @@ use Rattle.ffs_volume.specs.Blocks.KeptOffers.{offer_of, kept_in_run, kept_in_of
 use Rattle.ffs_volume.specs.{Blocks.Owners.Owner, Encodings.Replay.{is_replay_open, fresh_replay, cut_of}}
 use Rattle.ffs_volume.specs.{Encodings.Replay.replay_after_step, Report.Whole.run_count, declared.Layout.Layout}
 use Rattle.ffs_volume.specs.{declared.Step.{Step, TheVariants.{Run, Tail, Gap}}, Blocks.BlockCheck.set_count}
-use Rattle.ffs_volume.specs.{Blocks.BlockCheck.after_first, Costs.RescanRuns.{run_offers_of_step, runs_until_reported}}
+use Rattle.ffs_volume.specs.{Blocks.BlockCheck.unreported_after, Costs.RescanRuns.{run_offers_of_step, runs_until_reported}}
 use Rattle.ffs_volume.specs.Costs.RescanRuns.{run_offers_of_steps, run_offers_of_owners, rescan_runs}
 use Rattle.ffs_volume.specs.Costs.VolumeReads.{indirect_in_steps, seen_indirect}
 use Rattle.ffs_walk.specs.{Keepings.run_taken, SeenRuns.{seen_runs, step_run}, declared.seen_runs.SeenRun.SeenRun}
@@ -97,13 +97,13 @@ looked_none dup (kept ∷ runs) e = rw (eq-eqb _ _ e) refl
 -- what is left to report after some Runs
 abbrev pub after_runs : List Bool → List (List Offer) → List Bool
 after_runs dup [] = dup
-after_runs dup (kept ∷ runs) = after_runs (after_first dup kept) runs
+after_runs dup (kept ∷ runs) = after_runs (unreported_after dup kept) runs
 
 none_left : (dup : List Bool) (runs : List (List Offer)) → set_count dup ≡ 0 → after_runs dup runs ≡ dup
 none_left dup [] e = refl
 none_left dup (kept ∷ runs) e =
-    let same : after_first dup kept ≡ dup = none_after dup kept e in
-    none_left (after_first dup kept) runs (ap set_count same ∙ e) ∙ same
+    let same : unreported_after dup kept ≡ dup = none_after dup kept e in
+    none_left (unreported_after dup kept) runs (ap set_count same ∙ e) ∙ same
 
 pub looked_both : (dup : List Bool) (xs ys : List (List Offer)) → runs_until_reported dup (xs ++ ys)
     ≡ runs_until_reported dup xs + runs_until_reported (after_runs dup xs) ys
@@ -113,14 +113,14 @@ looked_both dup (kept ∷ xs) ys = elim (cases_eq (set_count dup) 0) [
   | inl none ↦
       let rest = ap (λ d. runs_until_reported d ys) (none_left dup (kept ∷ xs) none) ∙ looked_none dup ys none in
       omega (arith, looked_none dup ((kept ∷ xs) ++ ys) none, looked_none dup (kept ∷ xs) none)
-  | inr some ↦ rw (ne_eqb _ _ some) (omega (arith, looked_both (after_first dup kept) xs ys))
+  | inr some ↦ rw (ne_eqb _ _ some) (omega (arith, looked_both (unreported_after dup kept) xs ys))
 ]
 
 -- the Runs leave to report what their offers leave
 pub runs_leave : (i : ℕ) (dup : List Bool) (runs : List SeenRun) →
-    after_runs dup (map (run_offers i) runs) ≡ after_first dup (offers_of_runs i runs)
+    after_runs dup (map (run_offers i) runs) ≡ unreported_after dup (offers_of_runs i runs)
 runs_leave i dup [] = refl
-runs_leave i dup (run ∷ runs) = runs_leave i (after_first dup (run_offers i run)) runs
+runs_leave i dup (run ∷ runs) = runs_leave i (unreported_after dup (run_offers i run)) runs
     ∙ sym (after_append dup (run_offers i run) (offers_of_runs i runs))
 
 -- ---- the rescan looks at no Run that phase 1 didn't see
@@ -152,7 +152,7 @@ owners_seen v s (o ∷ os) =
 looked_most : (dup : List Bool) (runs : List (List Offer)) → runs_until_reported dup runs ≤ length runs
 unfolding runs_until_reported
 looked_most dup [] = omega arith
-looked_most dup (kept ∷ runs) = let more = looked_most (after_first dup kept) runs in grind arith
+looked_most dup (kept ∷ runs) = let more = looked_most (unreported_after dup kept) runs in grind arith
 
 pub look_most : (v : Layout) (bytes : List ℕ) → rescan_runs v bytes ≤ run_count v bytes
 unfolding rescan_runs run_count all_claims

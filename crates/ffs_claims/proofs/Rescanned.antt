@@ -4,7 +4,7 @@ use Rattle.std.proofs.Common.{◌∷◌, ◌++◌, length, map, slice_index, sli
 use Rattle.std.proofs.lemmas.{Bool.{and_from, and_parts, Decides.nat_tests}, List.Folds.list_all-append}
 use Rattle.std.specs.List.{range_with_len, list_any, list_all}
 use Rattle.ffs_volume.proofs.{CutLaws.cut_is, OwnerLaws.before_next, Potentials.cond_holds, ReplayLaws.replay_is_runs}
-use Rattle.ffs_volume.specs.Blocks.BlockCheck.{blames, first_offer_lines, phase1b_lines, after_first, set_count}
+use Rattle.ffs_volume.specs.Blocks.BlockCheck.{blames, first_offer_lines, phase1b_lines, unreported_after, set_count}
 use Rattle.ffs_volume.specs.Blocks.Claims.{Claims, no_claims, at_next_inode, after_offer, after_step, after_steps}
 use Rattle.ffs_volume.specs.Blocks.{Claims.{after_owner, all_claims, after_owners}, Inodes.{inode_of, inodes_of}}
 use Rattle.ffs_volume.specs.Blocks.KeptOffers.{Offer, kept_in_offers, kept_in_step, kept_in_steps, kept_in_owners}
@@ -68,7 +68,7 @@ kept_next v bytes notes n p = grind (arith, inode_again, arith, range_more, befo
 
 -- its Runs are looked at, and those of the inodes after it
 pub looked_on : (v : Layout) (bytes notes : List ℕ) (n : ℕ) (dup dup' : List Bool) → IsNoted v bytes notes n →
-    dup' ≡ after_first dup (offers_at v bytes notes n) → runs_until_reported dup (runs_from v bytes n)
+    dup' ≡ unreported_after dup (offers_at v bytes notes n) → runs_until_reported dup (runs_from v bytes n)
     ≡ runs_until_reported dup (runs_at v bytes notes n) + runs_until_reported dup' (runs_from v bytes (n + 1))
 unfolding owner_of run_offers_of_owners
 looked_on v bytes notes n dup dup' p d =
@@ -93,7 +93,7 @@ abbrev pub each_from : Layout → List ℕ → ℕ → List (List Offer)
 each_from v bytes n = offers_by_owner v (claims_before v bytes n) (owners_from v bytes n)
 
 pub inodes_on : (v : Layout) (bytes notes : List ℕ) (n : ℕ) (dup dup' : List Bool) → IsNoted v bytes notes n →
-    set_count dup ≢ 0 → dup' ≡ after_first dup (offers_at v bytes notes n) →
+    set_count dup ≢ 0 → dup' ≡ unreported_after dup (offers_at v bytes notes n) →
     runs_until_reported dup (each_from v bytes n) ≡ 1 + runs_until_reported dup' (each_from v bytes (n + 1))
 unfolding owner_of offers_by_owner runs_until_reported
 inodes_on v bytes notes n dup dup' p some d =

@@ -10,7 +10,7 @@ use Rattle.ffs_image.specs.{Device.{Device, ForContents}, Known.IsContents}
 use Rattle.ffs_report.specs.{PhaseOutcome.{ImageAfter, PhaseReports}, Progress.Says, declared.fault.RunFault.RunFault}
 use Rattle.ffs_layout.specs.declared.geometry.Geometry.{Geometry}
 use Rattle.ffs_maps.specs.{Bits.bits_of, Reserved.with_reserved}
-use Rattle.ffs_walk.specs.Counts.{entered}
+use Rattle.ffs_walk.specs.Counts.{indirect_in_step}
 use Rattle.ffs_workspace.specs.{Holds.{IsFresh, claims_of}, Lengths.IsFor, Ready.CanRead, Tables.HoldsInode}
 use Rattle.ffs_workspace.specs.{Tables.HoldsPiece, declared.workspace.Workspace.Workspace}
 use Rattle.ffs_claims.specs.{Area.IsDataArea, Bounds.{inode_bound, step_bound}, Leaves.{CanOffer, ClaimsAndFinds}}
@@ -90,7 +90,7 @@ pub record StepsLeave {T : Type 0} (v : Layout) (d : Device) (old new : Workspac
   pub found : SameFound old new
   pub table : new.windows.table ≡ old.windows.table
 
--- each read is of an indirect block of the next inode that is seen, once
+-- there are at most as many reads as indirect blocks of the next inode are seen
 abbrev pub ReadsIndirect : Layout → Claims → Owner → (reads reads' : ℕ) → Type 0
 ReadsIndirect v s o reads reads' = reads' ≤ reads + indirect_in_steps v (at_next_inode s) o.steps
 
@@ -137,19 +137,19 @@ pub record TakesOffers {T E : Type 0} (v : Layout) (number : ℕ) (run : Run) (o
   pub only : OffersOnly v old.workspace new.workspace
 
 -- a step of an inode claims what it offers: its lines are said, the claims are those after it, and the
--- answer is whether the next step is seen. No more Runs are seen than its own, and one where it is an
--- indirect block
+-- answer is whether the next step is seen. No more Runs are seen than its own, and at least one where it
+-- is an indirect block
 pub record ClaimsStep {E : Type 0} (v : Layout) (number : ℕ) (step : Step) (old new : ClaimMoment)
     (result : Result Bool E) : Type 0 where
   pub said : Says old.report new.report (of_lines (step_lines v number (claims_of old.workspace) step)) result
   pub claims : OnOk result (claims_of new.workspace ≡ after_step v (claims_of old.workspace) step)
   pub seen : IfOk result (λ seen. seen ≡ is_open (claims_of new.workspace))
-  pub counted : old.workspace.runs_seen + entered step ≤ new.workspace.runs_seen
+  pub counted : old.workspace.runs_seen + indirect_in_step step ≤ new.workspace.runs_seen
   pub runs : new.workspace.runs_seen ≤ (after_step v (claims_of old.workspace) step).runs
 
 -- the steps of an owner claim what they offer: their lines are reported, the claims are those after
 -- them, the next inode can be walked over, and each read is paid by a Run that is seen. An image that
--- gives its bytes is read once for each indirect block that is seen, and no more Runs are seen than theirs
+-- gives its bytes is read at most once for each indirect block that is seen, and no more Runs are seen than theirs
 pub record ClaimsSteps {T : Type 0} (g : Geometry) (owner : List ℕ → Owner) (old new : PhaseMoment) (scan : Scan)
     (result : Result T RunFault) : Type 0 where
   pub text : PhaseReports (IsContents old.image.contents) (λ bytes.
@@ -167,8 +167,8 @@ pub record ClaimsSteps {T : Type 0} (g : Geometry) (owner : List ℕ → Owner) 
       new.workspace.runs_seen ≤ (after_steps g.layout (claims_of old.workspace) (owner bytes).steps).runs)
 
 -- an inode claims as an owner of fragments: its lines are reported, the claims are those after it, and
--- an image that gives its bytes is read once for each indirect block that is seen, and no more Runs are seen than
--- the owner's
+-- an image that gives its bytes is read at most once for each indirect block that is seen, and no more Runs are seen
+-- than the owner's
 pub record ClaimsOwner {T : Type 0} (g : Geometry) (owner : List ℕ → Owner) (old new : PhaseMoment) (scan : Scan)
     (result : Result T RunFault) : Type 0 where
   pub text : PhaseReports (IsContents old.image.contents)

@@ -25,13 +25,13 @@ pub record IsFreeInode (t : Table) (x : ℕ) : Type 0 where
   pub held : HoldsInode t x
   pub free : is_free_by (inode_bytes t x) ≡ true
 
--- each inode from a number on and before another one, which is at most `end`, is such an inode
+-- the window holds each inode from `number` on and below `next`, which is at most `end`, and each is free by its bytes
 pub record EndsFreeInodes (t : Table) (number end next : ℕ) : Type 0 where
   pub low : number ≤ next
   pub high : next ≤ end
   pub free : (x : ℕ) → number ≤ x → x < next → IsFreeInode t x
 
--- no such inode is at a number: it is `end`, or its inode isn't held by the window, or isn't free by its bytes
+-- the inode `next` isn't passed over: it is `end`, or the window doesn't hold it, or its bytes don't say that it is free
 abbrev pub IsPastFreeInodes : Table → (end next : ℕ) → Type 0
 IsPastFreeInodes t end next = next < end → HoldsInode t next → is_free_by (inode_bytes t next) ≡ false
 

@@ -1,7 +1,7 @@
 -- What phase 1b has reported, and what it leaves to report.
 use Rattle.std.specs.{List.list_any, Prelude.{◌≡◌, ◌≢◌, ◌<◌, ℕ, Result, OnErr, OnOk, ◌||◌, List, [], ◌∷◌, ◌++◌, ◌≤◌}}
 use Rattle.std.specs.Prelude.{◌+◌, ◌-◌, length, Ok, Err}
-use Rattle.ffs_volume.specs.Blocks.{BlockCheck.{blames, first_offer_lines, set_count, after_first}, KeptOffers.Offer}
+use Rattle.ffs_volume.specs.Blocks.{BlockCheck.{blames, first_offer_lines, set_count, unreported_after}, KeptOffers.Offer}
 use Rattle.ffs_volume.specs.{declared.Layout.Layout, Blocks.Inodes.inodes_of, Messages.Kinds.Message}
 use Rattle.ffs_image.specs.Device.{Device}
 use Rattle.ffs_report.specs.{Paid.LastBegun, PhaseOutcome.ImageAfter, Progress.{Progress, Said, Says}}
@@ -12,7 +12,7 @@ use Rattle.ffs_claims.specs.{Lines.of_lines, Moments.ClaimMoment}
 
 -- offers were gone over: their fragments are reported, and their inodes marked
 pub record OffersReported (offers : List Offer) (old new : Workspace) : Type 0 where
-  pub duplicates : bits_of new.duplicates ≡ after_first (bits_of old.duplicates) offers
+  pub duplicates : bits_of new.duplicates ≡ unreported_after (bits_of old.duplicates) offers
   pub marked : (x : ℕ) → bool_at new.marked.items x ≡ (bool_at old.marked.items x
       || list_any (blames x) (first_offer_lines (bits_of old.duplicates) offers))
 

@@ -61,13 +61,13 @@ abbrev pub noted_runs : Layout → Workspace → (number : ℕ) → Inode → (b
 noted_runs v w number inode bytes =
     seen_runs v (cut_in (slice_index w.notes.items number)) fresh_replay (steps_of v inode bytes)
 
--- each read is of an indirect block among Runs, once
+-- there are at most as many reads as these Runs have indirect blocks
 abbrev pub ReadsIndirectAgain : List SeenRun → (reads reads' : ℕ) → Type 0
 ReadsIndirectAgain runs reads reads' = reads' ≤ reads + indirect_among runs
 
 -- an inode is walked over again: of its kept offers those are reported that are the first of a fragment
 -- with a DUP line, and its Runs are counted, which pay for the reads. An image that gives its bytes is
--- read once for each indirect block that is seen
+-- read at most once for each indirect block that is seen
 pub record Rewalks {T : Type 0} (v : Layout) (number : ℕ) (inode : List ℕ → Inode) (old new : PhaseMoment)
     (result : Result T RunFault) : Type 0 where
   pub text : PhaseReports (IsContents old.image.contents) (λ bytes.

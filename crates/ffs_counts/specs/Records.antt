@@ -25,7 +25,7 @@ abbrev pub IsSectorOf : Layout → (c sector : ℕ) → Type 0
 IsSectorOf v c sector =
     (sector ≡ group_place v c / DEV_BSIZE) ⊎ (sector ≡ summary_place v (first_read c) / DEV_BSIZE)
 
--- it is such a sector of some group
+-- the block of some group, or the summary records that are read with its own, begin in this sector
 abbrev pub IsGroupSector : Layout → (sector : ℕ) → Type 0
 IsGroupSector v sector = (c : ℕ) × (c < v.ncg) × IsSectorOf v c sector
 
@@ -62,7 +62,8 @@ abbrev pub AsksForRecords : {I : Type 0} → (was_read : I → ℕ → ℕ → I
 AsksForRecords was_read v c old new =
     ReadsAtMostOnce was_read (summary_place v (first_read c)) (CSUM_SIZE * records_read v (first_read c)) old new
 
--- so were they, and then the block of group c, and nothing else
+-- the records that are read with that of group c were asked for, and then the block of group c, each once at most, and
+-- nothing else
 pub record AsksForGroup {I : Type 0} (was_read : I → ℕ → ℕ → I → Type 0) (v : Layout) (c : ℕ) (old new : I) : Type 0
   where
     pub between : I

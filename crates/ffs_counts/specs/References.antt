@@ -26,7 +26,7 @@ lines_as (Some line) = of_reference line ∷ []
 abbrev pub is_dead_by : Workspace → ℕ → Bool
 is_dead_by w i = dead_at w.kinds.items w.marked.items w.named.items i
 
--- whether it isn't dead, and its count of references is `LINKS_MET`: as many references as links, at
--- least one (`links_met` of `ffs_volume`)
+-- whether the inode i isn't dead by these lists, and its count of references is `LINKS_MET`: as many references as
+-- links, at least one (`links_met` of `ffs_volume`)
 abbrev pub is_right_by : Workspace → ℕ → Bool
 is_right_by w i = (slice_index w.references.items i == LINKS_MET) && not (is_dead_by w i)

@@ -84,7 +84,7 @@ fn unallocated_from(kinds: &[u8], first: usize) -> usize
 }
 
 /// How many allocated inodes are passed over at once: as many as unallocated ones.
-const RIGHT_AT_ONCE: usize = 64;
+const RIGHT_AT_ONCE: usize = UNALLOCATED_AT_ONCE;
 
 /// False only where none of `RIGHT_AT_ONCE` inodes is suspect: a loop without exit. Where one isn't
 /// allocated it is true too, so that their counts, eight times as long, aren't looked at.

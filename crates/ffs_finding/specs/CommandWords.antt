@@ -40,7 +40,7 @@ pub record IsNumber (text : Text) (n : ℕ) : Type 0 where
   pub small : n < 2 ^ 32
 
 -- a command without a number
-pub record IsPlain (word : Text) (o : Operands) (name : Text) : Type 0 where
+pub record IsUnnumbered (word : Text) (o : Operands) (name : Text) : Type 0 where
   pub word_is : o.command ≡ word
   pub image : o.first ≡ name
   pub alone : o.second ≡ None
@@ -53,10 +53,10 @@ pub record IsNumbered (word : Text) (o : Operands) (n : ℕ) (name : Text) : Typ
 
 -- the operands ask for this command, of the image of this name
 abbrev pub OperandsAskFor : Operands → Command → (name : Text) → Type 0
-OperandsAskFor o Copies name = IsPlain (codes "copies") o name × (o.sector ≡ None)
+OperandsAskFor o Copies name = IsUnnumbered (codes "copies") o name × (o.sector ≡ None)
 OperandsAskFor o (InVolume (Inode number) sector) name =
     IsNumbered (codes "inode") o number name × (sector ≡ o.sector)
-OperandsAskFor o (InVolume Fields sector) name = IsPlain (codes "fields") o name × (sector ≡ o.sector)
-OperandsAskFor o (InVolume Lost sector) name = IsPlain (codes "lost") o name × (sector ≡ o.sector)
+OperandsAskFor o (InVolume Fields sector) name = IsUnnumbered (codes "fields") o name × (sector ≡ o.sector)
+OperandsAskFor o (InVolume Lost sector) name = IsUnnumbered (codes "lost") o name × (sector ≡ o.sector)
 OperandsAskFor o (InVolume (Owner fragment) sector) name =
     IsNumbered (codes "owner") o fragment name × (sector ≡ o.sector)

@@ -39,6 +39,8 @@ impl Program for Find {
         }
     }
 
+    // What it promises is `IsFoundIn` (specs/Run): `FindsCommand`, with a memory of the system of
+    // which nothing was granted before.
     fn carry_out<I: Image, W: Output>(
         alloc: Global,
         image: &mut I,

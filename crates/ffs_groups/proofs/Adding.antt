@@ -6,7 +6,7 @@ use Rattle.std.proofs.lemmas.{List.FromFn.length-map-range_with_len, Nat.{mul-ad
 use Rattle.std.{specs.{List.{range_with_len, sum_by}, Int.bit_at}}
 use Rattle.ffs_volume.specs.Groups.Records.{free_stretches, stretch_of, has_bits, is_free_block}
 use Rattle.ffs_maps.proofs.{WordShifts.bit_shr, Counting.{sum_split, sum_same}, Bits.zeros_at}
-use Rattle.ffs_groups.specs.{declared.free.FreeCounts.FreeCounts, Free.{word_bits, whole_in, loose_in, stretches_in}}
+use Rattle.ffs_groups.specs.{declared.free.FreeSpace.FreeSpace, Free.{word_bits, whole_in, loose_in, stretches_in}}
 use Rattle.ffs_groups.{specs.Free.{AreBelow, Added, free_in}, proofs.Sums.{sum_more, sum_within, map_same}}
 use Rattle.ffs_groups.proofs.MapWords.{map_parts}
 
@@ -55,7 +55,7 @@ from_zero : (f : ℕ → ℕ) (n m : ℕ) → sum_by f (range_with_len 0 (n + m)
 from_zero f n m = let at : 0 + n ≡ n = omega arith in rw at at (sum_split f 0 n m (n + m) refl)
 
 -- one block more
-pub added_more : (bits : ℕ → List Bool) (n : ℕ) (old mid new : FreeCounts) → Added bits 0 n old mid →
+pub added_more : (bits : ℕ → List Bool) (n : ℕ) (old mid new : FreeSpace) → Added bits 0 n old mid →
     new.blocks ≡ mid.blocks + whole_in (bits n) → new.fragments ≡ mid.fragments + loose_in (bits n) →
     ((k : ℕ) → slice_index new.frsum k ≡ slice_index mid.frsum k + stretches_in k (bits n)) →
     Added bits 0 (n + 1) old new
@@ -67,7 +67,7 @@ joined_sums : (f : List Bool → ℕ) (bits other : ℕ → List Bool) (n m : �
 joined_sums f bits other n m same = grind (arith, sum_same, from_zero)
 
 -- the blocks of a word more
-pub added_join : (bits other : ℕ → List Bool) (n m : ℕ) (old mid new : FreeCounts) → Added bits 0 n old mid →
+pub added_join : (bits other : ℕ → List Bool) (n m : ℕ) (old mid new : FreeSpace) → Added bits 0 n old mid →
     Added other 0 m mid new →
     ((k : ℕ) → k < m → other k ≡ bits (n + k)) → Added bits 0 (n + m) old new
 added_join bits other n m old mid new a b same = record {
@@ -90,7 +90,7 @@ stretch_length : (k : ℕ) (bits : List Bool) → stretches_in k bits ≤ length
 stretch_length k bits = either_within (is_free_block bits) 0 _ (length bits) (omega arith) (stretches_few k bits)
 
 -- n blocks add at most 8 times n to any count
-pub added_below : (bits : ℕ → List Bool) (n low limit : ℕ) (old new : FreeCounts) → Added bits 0 n old new →
+pub added_below : (bits : ℕ → List Bool) (n low limit : ℕ) (old new : FreeSpace) → Added bits 0 n old new →
     ((b : ℕ) → length (bits b) ≤ 8) →
     AreBelow low old → low + 8 * n ≤ limit → AreBelow limit new
 added_below bits n low limit old new a short l fits = record {

@@ -5,7 +5,7 @@ use Rattle.ffs_volume.specs.{declared.{Order.Order, Layout.Layout, Class.Class},
 use Rattle.ffs_volume.specs.{Groups.Records.{group_size, has_right_sums}, Disk.Numbers.{i32_at, u32_at, number}}
 use Rattle.ffs_volume.specs.Disk.Numbers.{all_below}
 use Rattle.ffs_layout.specs.Group.{group_summary_at}
-use Rattle.ffs_groups.specs.declared.{counts.Counts.Counts, free.FreeCounts.FreeCounts, inodes.InodeCounts.InodeCounts}
+use Rattle.ffs_groups.specs.declared.{counts.Counts.Counts, free.FreeSpace.FreeSpace, inodes.InodeCounts.InodeCounts}
 use Rattle.ffs_groups.specs.{Check.{has_bits_of, AreCounts, same_counts, same_frsum_at}, Free.AreFreeCounts}
 use Rattle.ffs_groups.{specs.Inodes.AreInodeCounts, proofs.MapWords.same_below}
 
@@ -36,7 +36,7 @@ unfolding has_right_sums
 sums_as v free class c block counts h right = grind (arith, bits_are, same_below, stretch_as)
 
 -- counts of fragments and of inodes are the counts of a group
-pub are_counts : (v : Layout) (free : ℕ → Bool) (class : ℕ → Class) (c : ℕ) (f : FreeCounts) (i : InodeCounts) →
+pub are_counts : (v : Layout) (free : ℕ → Bool) (class : ℕ → Class) (c : ℕ) (f : FreeSpace) (i : InodeCounts) →
     AreFreeCounts v free c f → AreInodeCounts v class c i →
     AreCounts v free class c (record {
       summary = record { dirs = i.dirs; blocks = f.blocks; inodes = i.free; fragments = f.fragments };

@@ -8,7 +8,7 @@ use Rattle.std.specs.{List.{list_all, sum_by}, Int.{bit_at, div_ceil}}
 use Rattle.ffs_volume.specs.Groups.Records.{is_free_block, free_stretches, block_bits, right_frsum, group_size}
 use Rattle.ffs_volume.specs.{declared.Layout.Layout, Disk.Areas.cgbase}
 use Rattle.ffs_maps.proofs.{WordShifts.{small, bit_shr}, Counting.{sum_split, ones_by, one_on}}
-use Rattle.ffs_groups.specs.{declared.free.FreeCounts.FreeCounts, Free.{word_bits, whole_in, loose_in, stretches_in}}
+use Rattle.ffs_groups.specs.{declared.free.FreeSpace.FreeSpace, Free.{word_bits, whole_in, loose_in, stretches_in}}
 use Rattle.ffs_groups.specs.Free.{Added, AreFreeCounts, free_in}
 pub use Rattle.ffs_maps.proofs.Counting.{sum_const}
 
@@ -78,7 +78,7 @@ sum_all : (f : ℕ → ℕ) (m n : ℕ) → ((k : ℕ) → k < n → f k ≡ m) 
 sum_all f m n e = sum_const f m 0 n (λ k h. let at : 0 + k ≡ k = omega arith in rw at (e k h))
 
 -- blocks that add the same each
-pub added_by : (bits : ℕ → List Bool) (w n : ℕ) (old new : FreeCounts) → ((b : ℕ) → b < n → Adds w (bits b)) →
+pub added_by : (bits : ℕ → List Bool) (w n : ℕ) (old new : FreeSpace) → ((b : ℕ) → b < n → Adds w (bits b)) →
     new.blocks ≡ old.blocks + n * w → new.fragments ≡ old.fragments →
     ((j : ℕ) → slice_index new.frsum j ≡ slice_index old.frsum j) → Added bits 0 n old new
 added_by bits w n old new each blocks fragments frsum = record {
@@ -88,7 +88,7 @@ added_by bits w n old new each blocks fragments frsum = record {
 }
 
 -- ---- a word of zeros, and a word of ones
-pub zero_word : (word frag n : ℕ) (old : FreeCounts) → word ≡ 0 → 0 < frag →
+pub zero_word : (word frag n : ℕ) (old : FreeSpace) → word ≡ 0 → 0 < frag →
     Added (λ b. word_bits (word / 2 ^ (b * frag)) 0 frag) 0 n old old
 zero_word word frag n old e some =
     added_by (λ b. word_bits (word / 2 ^ (b * frag)) 0 frag) 0 n old old
@@ -96,7 +96,7 @@ zero_word word frag n old e some =
     rw (bit_shr word (b * frag) (0 + k), e, bit_at-zero (0 + k + b * frag)) refl))
     (omega arith) refl (λ j. refl)
 
-pub full_word : (word frag n : ℕ) (old new : FreeCounts) → word ≡ 2 ^ 64 - 1 → n * frag ≤ 64 →
+pub full_word : (word frag n : ℕ) (old new : FreeSpace) → word ≡ 2 ^ 64 - 1 → n * frag ≤ 64 →
     new.blocks ≡ old.blocks + n → new.fragments ≡ old.fragments →
     ((j : ℕ) → slice_index new.frsum j ≡ slice_index old.frsum j) →
     Added (λ b. word_bits (word / 2 ^ (b * frag)) 0 frag) 0 n old new
@@ -133,7 +133,7 @@ pub few_blocks : (n fragments frag fpg : ℕ) → 0 < frag → n * frag < fragme
 few_blocks n fragments frag fpg some h within whole = grind arith
 
 -- what is free in the blocks that the volume has, is free in the group
-pub free_there : (v : Layout) (used : List Bool) (c n fragments : ℕ) (new : FreeCounts) → 0 < v.frag →
+pub free_there : (v : Layout) (used : List Bool) (c n fragments : ℕ) (new : FreeSpace) → 0 < v.frag →
     v.fpg % v.frag ≡ 0 → n ≡ div_ceil fragments v.frag → fragments ≤ v.fpg →
     fragments ≡ group_size v c →
     new.blocks ≡ sum_by (λ b. whole_in (block_bits v (free_in used v.size) c b)) (range_with_len 0 n) →
@@ -182,7 +182,7 @@ ones_below word n h =
 single_adds : (b : Bool) → Adds (cond b 1 0) (b ∷ [])
 single_adds b = grind arith
 
-pub added_single : (word frag n : ℕ) (old new : FreeCounts) → frag ≡ 1 → n ≤ 64 →
+pub added_single : (word frag n : ℕ) (old new : FreeSpace) → frag ≡ 1 → n ≤ 64 →
     new.blocks ≡ old.blocks + count_ones (bit_and word ((2 ^ 64 - 1) / 2 ^ (64 - n))) →
     new.fragments ≡ old.fragments → ((j : ℕ) → slice_index new.frsum j ≡ slice_index old.frsum j) →
     Added (λ b. word_bits (word / 2 ^ (b * frag)) 0 frag) 0 n old new

@@ -27,7 +27,7 @@ pub struct Counts {
     /// The counts of its summary.
     pub summary: SummaryCounts,
     /// At index k, how many stretches of exactly k free fragments lie in blocks that are not all
-    /// free (`FreeCounts::frsum`).
+    /// free (`FreeSpace::frsum`).
     pub frsum: [u64; 9],
 }
 

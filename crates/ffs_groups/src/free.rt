@@ -56,7 +56,7 @@ pub fn all_or_none_free(used: &FragmentMap, start: u32, end: u32) -> Option<bool
 
 /// What is free in a group: whole blocks, and fragments of other blocks.
 #[derive(Clone, Copy, Debug)]
-pub struct FreeCounts {
+pub struct FreeSpace {
     /// Blocks of which each fragment is free.
     pub blocks: u64,
     /// Free fragments in other blocks.
@@ -69,7 +69,7 @@ pub struct FreeCounts {
 
 // The bounds on counts that the contracts below ask for, from 2^61 to 2^64 - 1: any serve that are
 // far above what a group has, and grow from a call to those that it makes.
-impl FreeCounts {
+impl FreeSpace {
     /// Counts a stretch of `stretch` free fragments, unless that is 0.
     fn end_stretch(&mut self, stretch: u32)
         requires { HasRoomToEnd stretch (2 ^ 64 - 1) self.old }
@@ -182,7 +182,7 @@ impl FreeCounts {
 
 /// What is free in a group: the fragments below the volume's size that are not used. Only the
 /// group's blocks that the volume has are looked at.
-pub fn free_counts(geometry: &Geometry, used: &FragmentMap, group: u32) -> FreeCounts
+pub fn free_counts(geometry: &Geometry, used: &FragmentMap, group: u32) -> FreeSpace
     requires { HasFragments geometry.now.layout used.now.size group }
     ensures { AreFreeCounts geometry.now.layout
         (free_in (bits_of used.now) geometry.now.layout.size) group result }
@@ -190,7 +190,7 @@ pub fn free_counts(geometry: &Geometry, used: &FragmentMap, group: u32) -> FreeC
     let frag = geometry.layout.frag;
     let base = u64::from(geometry.cgbase(group));
     let blocks = group_fragments(geometry, group).div_ceil(frag);
-    let mut counts = FreeCounts {
+    let mut counts = FreeSpace {
         blocks: 0,
         fragments: 0,
         frsum: [0; 9],

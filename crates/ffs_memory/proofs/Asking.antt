@@ -16,8 +16,9 @@ pub gave_up_within : (a b : Account) (n limit : ℕ) → GaveUp a b n → n ≤ 
 gave_up_within a b n limit h room = grind arith
 
 -- a refusal of one request
-pub gave_up_at : (a b : Account) (limit : ℕ) → RequestRefused a b → GaveUp a b limit
-gave_up_at a b limit h = record { most = omega (arith, h.granted); rose = h.rose }
+pub gave_up_at : (a b : Account) (n limit : ℕ) → RequestRefused a b n → n ≤ limit → GaveUp a b limit
+gave_up_at a b n limit h room =
+    record { most = omega (arith, h.granted); asked = omega (arith, h.asked.most, room); rose = h.rose }
 
 -- what was asked of a memory of the system that was new
 pub of_system : {T E : Type 0} (bytes : ℕ) (result : Result T E) (memory memory' : SystemMemory) →

@@ -11,12 +11,13 @@ is_blown left = left == 1
 abbrev pub left_after : ℕ → ℕ
 left_after left = left - 1
 
--- a request is counted; the fuse is blown where it is the one to be refused, and counts that too
-pub record CountsRequest {M : Type 0} (old new : FuseMemory M) (blown : Bool) : Type 0 where
+-- a request for these bytes is counted; the fuse is blown where it is the one to be refused, and counts that too
+pub record CountsRequest {M : Type 0} (old new : FuseMemory M) (bytes : ℕ) (blown : Bool) : Type 0 where
   pub value : blown ≡ is_blown old.left
   pub counted : new ≡ record old {
     left = left_after old.left;
     own = if blown then min (old.own + 1) (2 ^ 64 - 1) else old.own;
+    own_bytes = if blown then min (old.own_bytes + bytes) (2 ^ 64 - 1) else old.own_bytes;
   }
 
 -- a request for these bytes: the fuse refuses it, and the memory below isn't asked, or that memory
@@ -32,5 +33,5 @@ pub record BurnsAtRequest {S T E : Type 0} (M : Ghosts S) (old new : FuseMemory 
 -- request yet
 pub record IsFusedMemory {M : Type 0} (account_below : M → Account) (account_of : FuseMemory M → Account) (below : M)
     (left : ℕ) (memory : FuseMemory M) : Type 0 where
-  pub made : memory ≡ record { inner = below; left = left; own = 0 }
+  pub made : memory ≡ record { inner = below; left = left; own = 0; own_bytes = 0 }
   pub account : account_of memory ≡ account_below below

@@ -7,7 +7,7 @@ use Rattle.ffs_memory.specs.declared.system.SystemMemory.{SystemMemory}
 -- but the counting itself knows an account by the clauses of the calls that were made, and can't
 -- make one up
 unfoldable pub allocator_account : CountedAllocator → Account
-allocator_account a = record { granted = a.granted; refused = a.refused }
+allocator_account a = record { granted = a.granted; refused = a.refused; asked = a.asked }
 
 -- the account of a `SystemMemory` is that of its allocator
 abbrev pub account_of : SystemMemory → Account

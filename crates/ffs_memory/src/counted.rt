@@ -4,13 +4,16 @@ ghost use Rattle.ffs_memory.specs.{Account.{MakesRoom, unused}, System.allocator
 
 use std::alloc::{AllocError, Global};
 
-/// An allocator that counts the bytes that it gave and the requests that it refused. It can only be
+/// An allocator that counts the bytes that it was asked for, those that it gave, and the requests
+/// that it refused. It can only be
 /// asked for room for a list: it gives out no allocator, so that no request goes uncounted.
 #[derive(Drop)]
 pub(crate) struct CountedAllocator {
     alloc: Global,
     granted: u64,
     refused: u64,
+    /// The bytes of all requests, granted or refused.
+    asked: u64,
 }
 
 impl CountedAllocator {
@@ -23,6 +26,7 @@ impl CountedAllocator {
             alloc,
             granted: 0,
             refused: 0,
+            asked: 0,
         }
     }
 
@@ -55,6 +59,8 @@ impl CountedAllocator {
         ensures { MakesRoom (allocator_account self.old) (allocator_account self.new) count
             (type_size T.row) result }
     {
+        let asked = (size_of_val(&element) as u64).saturating_mul(count as u64);
+        self.asked = self.asked.saturating_add(asked);
         match Vec::with_capacity(self.alloc, count) {
             Ok(room) => {
                 let bytes = (size_of_val(&element) as u64).saturating_mul(room.capacity() as u64);

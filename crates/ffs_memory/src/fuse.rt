@@ -18,6 +18,8 @@ pub struct FuseMemory<M> {
     left: u64,
     /// How many requests the fuse itself has refused.
     own: u64,
+    /// The bytes of these.
+    own_bytes: u64,
 }
 
 impl<M: Memory> FuseMemory<M> {
@@ -32,17 +34,20 @@ impl<M: Memory> FuseMemory<M> {
             inner,
             left: k,
             own: 0,
+            own_bytes: 0,
         }
     }
 
-    /// Counts a request, and says whether it is the one to be refused, which `own` counts too.
-    fn blows(&mut self) -> bool
-        ensures { CountsRequest self.old self.new result }
+    /// Counts a request for `n` elements of `size` bytes, and says whether it is the one to be
+    /// refused, which `own` and `own_bytes` count too.
+    fn blows(&mut self, n: usize, size: u64) -> bool
+        ensures { CountsRequest self.old self.new (size * n) result }
     {
         let is_last = self.left == 1;
         self.left = self.left.saturating_sub(1);
         if is_last {
             self.own = self.own.saturating_add(1);
+            self.own_bytes = self.own_bytes.saturating_add(size.saturating_mul(n as u64));
         }
         is_last
     }
@@ -51,7 +56,10 @@ impl<M: Memory> FuseMemory<M> {
 impl<M: Memory> Memory for FuseMemory<M> {
     ghost use Rattle.std.specs.Prelude.{◌+◌, min, ◌-◌, ◌^◌};
 
-    ghost account = { λ f. let a = M.account f.inner in record a { refused = min (a.refused + f.own) (2 ^ 64 - 1) } };
+    ghost account = { λ f. let a = M.account f.inner in record a {
+      refused = min (a.refused + f.own) (2 ^ 64 - 1);
+      asked = a.asked + f.own_bytes;
+    } };
 
     ghost requests = { λ f. M.requests f.inner };
 
@@ -68,7 +76,7 @@ impl<M: Memory> Memory for FuseMemory<M> {
             (⟦<FuseMemory<M> as Memory>⟧.account self.new) n n 0 result }
         ensures fuse { BurnsAtRequest M.Memory self.old self.new n result }
     {
-        if self.blows() {
+        if self.blows(n, 1) {
             return Err(AllocError);
         }
         self.inner.bytes(n)
@@ -79,7 +87,7 @@ impl<M: Memory> Memory for FuseMemory<M> {
             (⟦<FuseMemory<M> as Memory>⟧.account self.new) n n false result }
         ensures fuse { BurnsAtRequest M.Memory self.old self.new n result }
     {
-        if self.blows() {
+        if self.blows(n, 1) {
             return Err(AllocError);
         }
         self.inner.flags(n)
@@ -90,7 +98,7 @@ impl<M: Memory> Memory for FuseMemory<M> {
             (⟦<FuseMemory<M> as Memory>⟧.account self.new) n (4 * n) 0 result }
         ensures fuse { BurnsAtRequest M.Memory self.old self.new (4 * n) result }
     {
-        if self.blows() {
+        if self.blows(n, 4) {
             return Err(AllocError);
         }
         self.inner.numbers(n)
@@ -101,7 +109,7 @@ impl<M: Memory> Memory for FuseMemory<M> {
             (⟦<FuseMemory<M> as Memory>⟧.account self.new) n (8 * n) 0 result }
         ensures fuse { BurnsAtRequest M.Memory self.old self.new (8 * n) result }
     {
-        if self.blows() {
+        if self.blows(n, 8) {
             return Err(AllocError);
         }
         self.inner.long_numbers(n)
@@ -112,7 +120,7 @@ impl<M: Memory> Memory for FuseMemory<M> {
             (⟦<FuseMemory<M> as Memory>⟧.account self.new) n 8 result }
         ensures fuse { BurnsAtRequest M.Memory self.old self.new (8 * n) result }
     {
-        if self.blows() {
+        if self.blows(n, 8) {
             return Err(AllocError);
         }
         self.inner.room_for_words(n)

@@ -7,7 +7,7 @@ use Rattle.ffs_volume.specs.{declared.Step.TheVariants.{Run, Tail, Gap}, Directo
 use Rattle.ffs_volume.specs.{Directories.Entries.{has_gap, is_gap, step_chunks}, Disk.Areas.is_run_in_range}
 use Rattle.ffs_volume.specs.Encodings.Replay.{Replay, is_replay_open, is_replayed, replay_after_step, replayed_steps}
 use Rattle.ffs_volume.specs.Encodings.ReplayCounts.{replayed_runs, seen_run}
-use Rattle.ffs_walk.{proofs.WalkSteps.top_ends, specs.{Counts.entered, Keepings.{Replays, replay_in}, Rests.{IsOver, most_steps_left}}}
+use Rattle.ffs_walk.{proofs.WalkSteps.top_ends, specs.{Counts.indirect_in_step, Keepings.{Replays, replay_in}, Rests.{IsOver, most_steps_left}}}
 use Rattle.ffs_walk.specs.{Rests.steps_left, declared.{keeping.Keeping.Keeping, walk.Walk.Walk}}
 use Rattle.ffs_names.specs.{Costs.{SeesRun, unread_run}, Readings.{CanSee, Continues, HasSeenAll, IsSame}}
 use Rattle.ffs_names.specs.{Readings.{chunks_after, gap_after, runs_after}, RunCursors.{IsWhole, cursor_chunks, reading_by}}
@@ -208,7 +208,7 @@ sees {b = b} {c = c} {start = start} {len = len} {block = block} s found steps =
 pub sees_chunks : {c c' : Chunks} {start len taken : ℕ} {block : Option ℕ} → SeesBy c c' start len block taken → ((b :
     List ℕ) → cursor_chunks c.walk.geometry.layout b c'.run_cursor ≡ (if taken == len then step_chunks (reading_by
     c.walk.geometry.layout b c.bytes_to_read) (is_run_in_range c.walk.geometry.layout) (Run start len block) else [])) →
-    unread_run c'.run_cursor + entered (Run start len block) ≤ 1 → IsWhole c'.run_cursor → SeesRun c c' start len block
+    unread_run c'.run_cursor + indirect_in_step (Run start len block) ≤ 1 → IsWhole c'.run_cursor → SeesRun c c' start len block
 sees_chunks s found few whole = record {
   continues = λ b. sees s (found b);
   walk = s.walk;

@@ -4,7 +4,7 @@ use Rattle.std.proofs.lemmas.Bool.Decides.{nat_tests}
 use Rattle.ffs_volume.specs.declared.Step.TheVariants.{Run}
 use Rattle.ffs_layout.specs.declared.geometry.Geometry.{Geometry}
 use Rattle.ffs_walk.proofs.Counted.{top_held, top_unread}
-use Rattle.ffs_walk.specs.{Counts.entered, Rests.IsAtTop, declared.window.Window.Window}
+use Rattle.ffs_walk.specs.{Counts.indirect_in_step, Rests.IsAtTop, declared.window.Window.Window}
 use Rattle.ffs_names.specs.{Costs.{BeginsReads, HoldsRun, unread_run}, RunCursors.IsWhole}
 use Rattle.ffs_names.specs.declared.{chunks.Chunks.Chunks, run_cursor.RunCursor.RunCursor}
 
@@ -30,9 +30,9 @@ pub begins_reads : {g : Geometry} {c : Chunks} → c.walk.geometry ≡ g → IsA
 begins_reads {c = c} same top over first = grind (arith, top_unread, run_over, top_held, over_held)
 
 -- a Run that is seen is no more than one indirect block, and none where it is one of data
-pub entered_one : (start len : ℕ) (block : Option ℕ) → entered (Run start len block) ≤ 1
+pub entered_one : (start len : ℕ) (block : Option ℕ) → indirect_in_step (Run start len block) ≤ 1
 entered_one start len None = omega arith
 entered_one start len (Some block) = omega arith
 
-pub entered_none : (start len : ℕ) (block : Option ℕ) (at : ℕ) → block ≡ Some at → entered (Run start len block) ≡ 0
+pub entered_none : (start len : ℕ) (block : Option ℕ) (at : ℕ) → block ≡ Some at → indirect_in_step (Run start len block) ≡ 0
 entered_none start len block at e = rw e refl

@@ -7,7 +7,7 @@ use Rattle.ffs_volume.specs.{Blocks.Inodes.class_of, Directories.Roles.{roled_ch
 use Rattle.ffs_volume.specs.{Directories.Volumes.volume_of, Report.Reads.sweep_reads}
 use Rattle.ffs_volume.specs.Costs.DirectoryReads.{noted_directory_cost, noted_directories_cost}
 use Rattle.ffs_layout.specs.declared.geometry.Geometry.{Geometry}
-use Rattle.ffs_walk.specs.{Counts.{AreHeld, entered, unread}, declared.{blocks.Blocks.Blocks, window.Window.Window}}
+use Rattle.ffs_walk.specs.{Counts.{AreHeld, indirect_in_step, unread}, declared.{blocks.Blocks.Blocks, window.Window.Window}}
 use Rattle.ffs_names.specs.{Readings.{rest, runs_after, runs_left, BeginsAt, Continues}, RunCursors.IsWhole}
 use Rattle.ffs_names.specs.declared.{chunks.Chunks.Chunks, entries.Entries.Entries, run_cursor.RunCursor.RunCursor}
 
@@ -52,7 +52,7 @@ pub record BeginsByClass (g : Geometry) (inode : Inode) (class : Class) (cut : �
 pub record SeesRun (old new : Chunks) (start len : ℕ) (block : Option ℕ) : Type 0 where
   pub continues : (b : List ℕ) (steps : List Step) → Continues b old (Run start len block ∷ steps) new steps
   pub walk : new.walk ≡ old.walk
-  pub reads : (steps : List Step) → unread_run new.run_cursor + (entered (Run start len block) + runs_after new steps)
+  pub reads : (steps : List Step) → unread_run new.run_cursor + (indirect_in_step (Run start len block) + runs_after new steps)
       ≤ runs_after old (Run start len block ∷ steps)
   pub whole : IsWhole new.run_cursor
 

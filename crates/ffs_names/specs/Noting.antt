@@ -44,7 +44,7 @@ pub record CanNoteChunks (parents : Vec ℕ Global) (p : ℕ) (m : NotingMoment)
   pub dir : 0 < p
   pub lengths : vec_len parents ≡ vec_len m.words
 
--- so can those of an inode of the volume
+-- the chunks of an inode of the volume can be read and noted
 pub record CanNoteDirectory (v : Layout) (d : Device) (w : Workspace) (p : ℕ) : Type 0 where
   pub dir : (0 < p) × (p < inodes_of v)
   pub ready : CanRead v d w
@@ -68,7 +68,7 @@ pub record NotesChunk (parents old new : List ℕ) (p place : ℕ) (es : List Ro
       ≡ (if is_found parents old p es x then place else part_in (slice_index old x))
   pub to_read : KeepsToRead old new
 
--- it is noted so, in as many words
+-- the place is noted as in `NotesChunk`, and there are as many words as before
 pub record NotesInWords (parents old new : Vec ℕ Global) (p place : ℕ) (es : List RoledEntry) : Type 0 where
   pub noted : NotesChunk parents.items old.items new.items p place es
   pub long : vec_len new ≡ vec_len old

@@ -4,7 +4,6 @@ use Rattle.ffs_volume.specs.declared.{constants.TheConstants.{DT_DIR, DIRBLKSIZ}
 use Rattle.ffs_volume.specs.Disk.Areas.{is_run_in_range}
 
 -- its inode, as far as a reading of its entries asks for it
-
 abbrev pub one_chunk_at : ℕ → Inode
 one_chunk_at address = record {
   mode = DT_DIR * 4096;

@@ -22,7 +22,7 @@ pub record HasInodeLists (w : Workspace) : Type 0 where
   pub words : vec_len w.words ≡ vec_len w.kinds
   pub few : vec_len w.kinds < 2 ^ 31
 
--- of each inode its kind, whether it is marked, and its parent
+-- these lists show of each inode of the volume its kind, whether it is marked, and its parent
 pub record Sees (vol : Volume) (i : Inodes) : Type 0 where
   pub count : vol.count ≡ length i.kinds.now
   pub dir : (x : ℕ) → is_dir vol x ≡ is_dir_kind (slice_index i.kinds.now x)

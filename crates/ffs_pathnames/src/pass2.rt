@@ -55,7 +55,8 @@ pub enum Root {
 /// # Errors
 /// A read of the image that failed, and a write of the report that failed. After a write phase 2
 /// can be called again: all that it needs is held still. After a read phases 2, 3 and 4 can, where
-/// the workspace says `surveyed` (`ends`); where it doesn't, the counts of references are between.
+/// the workspace says `surveyed` (`ends`); where it doesn't, the survey was cut short and has
+/// counted some references: nothing is promised of a later call.
 pub fn phase2<I: Image, W: Output>(
     geometry: &Geometry,
     image: &mut I,

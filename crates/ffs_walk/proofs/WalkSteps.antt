@@ -8,7 +8,7 @@ use Rattle.ffs_volume.specs.Blocks.Steps.{first_block}
 use Rattle.ffs_walk.specs.{declared.{frame.Frame.Frame, walk.Walk.Walk}, Fits.IsSpent, Frames.frame_rest}
 use Rattle.ffs_walk.specs.Rests.{GivesStep, IsAtTop, IsOver, IsTopStep, SameFileBlocks, file_blocks_of, steps_left}
 use Rattle.ffs_walk.specs.{Rests.{single_rest, double_rest, triple_rest, top_rest, most_at, most_steps_left}}
-use Rattle.ffs_walk.specs.{Counts.{EntersOnly, entered}, Lengths.IsStepOf}
+use Rattle.ffs_walk.specs.{Counts.{EntersOnly, indirect_in_step}, Lengths.IsStepOf}
 
 pub steps_zero : (t : FileBlocks) (bytes : List ℕ) (a f : ℕ) → steps_at t bytes 0 a f ≡ data_step t a f ∷ []
 unfolding steps_at
@@ -73,5 +73,5 @@ gives_one contents old new step more steps fits falls same = grind arith
 pub top_gives : (old new : Walk) (step : Step) → old.next < old.used →
     ((bytes : List ℕ) → steps_left bytes old ≡ step ∷ steps_left bytes new) →
     IsStepOf old.geometry.layout.frag old.logical_blocks step → most_steps_left new < most_steps_left old →
-    SameFileBlocks old new → EntersOnly old new (entered step) → IsTopStep old new (Some step)
+    SameFileBlocks old new → EntersOnly old new (indirect_in_step step) → IsTopStep old new (Some step)
 top_gives old new step left steps fits falls same counted = grind (arith, gives_one)

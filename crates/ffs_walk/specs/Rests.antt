@@ -8,7 +8,7 @@ use Rattle.ffs_volume.specs.Blocks.Steps.{data_step, indirect_steps, steps_at, s
 use Rattle.ffs_layout.specs.declared.geometry.Geometry.{Geometry}
 use Rattle.ffs_walk.specs.{declared.{walk.Walk.Walk, frame.{Frame.Frame, Item.Item}}, Frames.{frame_rest, frame_left}}
 use Rattle.ffs_walk.specs.{Frames.{item_steps, item_left}, Fits.{FrameFits, IsBelow, IsSpent}, Lengths.IsStepOf}
-use Rattle.ffs_walk.specs.Counts.{AreHeld, EntersOnly, IsEntered, StepReads, entered, entered_by}
+use Rattle.ffs_walk.specs.Counts.{AreHeld, EntersOnly, IsEntered, StepReads, indirect_in_step, indirect_in_answer}
 use Rattle.ffs_walk.specs.{Windows.{BlocksAfter, FailsAt, ImageWith}, declared.blocks.Blocks.Blocks}
 
 -- the blocks of the file that a walk is over, as the definition of steps takes them
@@ -141,7 +141,7 @@ pub record IsFirstOf (level : ℕ) (item : Item) (old new : Walk) (step : Step) 
   pub fits : IsStepOf old.geometry.layout.frag old.logical_blocks step
   pub left : 1 + most_steps_left new ≤ item_left (most_at old.geometry.layout.nindir level) item + most_steps_left old
   pub same : SameFileBlocks old new
-  pub counted : EntersOnly old new (entered step)
+  pub counted : EntersOnly old new (indirect_in_step step)
 
 -- the next step of a walk is taken, or a read failed, which doesn't end the walk; a walk that is over
 -- stays as it is
@@ -169,7 +169,7 @@ pub record Advances (before after : ImageWith Blocks) (old new : Walk) (result :
 pub record IsTopStep (old new : Walk) (answer : Option Step) : Type 0 where
   pub none : answer ≡ None → new ≡ old
   pub gives : (contents : Option (List ℕ)) → GivesStep contents old new (Ok answer)
-  pub counted : EntersOnly old new (entered_by answer)
+  pub counted : EntersOnly old new (indirect_in_answer answer)
 
 -- the next step of a walk is taken, and the walk has the others left; it is over after a failed
 -- read. Where the blocks that were read are held, only one that was still to be read is read; in any case,

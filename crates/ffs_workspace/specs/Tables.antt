@@ -44,8 +44,8 @@ IsTableSector v sector = (x : ℕ) × (x < inodes_of v) × IsSectorOfInode v x s
 abbrev pub sector_inodes : ℕ
 sector_inodes = 4
 
-abbrev pub part_inodes : ℕ
-part_inodes = 32
+abbrev pub piece_inodes : ℕ
+piece_inodes = 32
 
 -- the sector of the inode x begins where the inodes that are held end: it is one of the four after them
 unfoldable pub follows : Table → ℕ → Bool
@@ -53,7 +53,7 @@ follows t x = nat_le (t.first + t.count) x && nat_lt x (t.first + t.count + sect
 
 -- how many inodes are read for the inode x, where it isn't held: a sector, or eight that follow those held
 unfoldable pub count_to_read : Table → ℕ → ℕ
-count_to_read t x = if follows t x then part_inodes else sector_inodes
+count_to_read t x = if follows t x then piece_inodes else sector_inodes
 
 -- the inode x is one of those that are held
 abbrev pub HoldsInode : Table → ℕ → Type 0

@@ -62,7 +62,8 @@ pub struct Workspace {
     /// How many entries refer to each inode, counted on from `links_start`.
     pub references: FilledList<u64>,
     /// Whether the survey is made. Before the first one each count of `references` is where it
-    /// starts; one that a read cut short leaves them between, and no later call finds them right.
+    /// starts; one that a read cut short has counted some of them, and no later call finds them
+    /// right.
     pub surveyed: bool,
     /// What is noted of each inode (`note_of`): how many offers it keeps, if its eleventh dup offer
     /// cut it; if not, 2^31 + 128 plus the address of its chunk for a directory of one; else 0.

@@ -81,6 +81,6 @@ abbrev pub set_count : List Bool → ℕ
 set_count bits = count_by (λ b. b) bits
 
 -- the fragments whose first kept offer is still to be reported in phase 1b, after some offers
-abbrev pub after_first : List Bool → List Offer → List Bool
-after_first left [] = left
-after_first left (o ∷ os) = after_first (if is_set left o.fragment then slice_set left o.fragment false else left) os
+abbrev pub unreported_after : List Bool → List Offer → List Bool
+unreported_after left [] = left
+unreported_after left (o ∷ os) = unreported_after (if is_set left o.fragment then slice_set left o.fragment false else left) os

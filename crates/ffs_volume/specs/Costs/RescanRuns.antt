@@ -2,7 +2,7 @@
 use Rattle.std.specs.Prelude.{ℕ, Bool, ◌==◌, ◌+◌, List, [], ◌∷◌, ◌++◌, if◌then◌else◌}
 use Rattle.ffs_volume.specs.{declared.{Layout.Layout, Step.{Step, TheVariants.{Run, Tail, Gap}}}, Blocks.Owners.{Owner, owners_of}}
 use Rattle.ffs_volume.specs.Blocks.Claims.{Claims, no_claims, at_next_inode, is_open, after_owner, after_step, all_claims}
-use Rattle.ffs_volume.specs.Blocks.{KeptOffers.{Offer, kept_in_run}, BlockCheck.{after_first, set_count}}
+use Rattle.ffs_volume.specs.Blocks.{KeptOffers.{Offer, kept_in_run}, BlockCheck.{unreported_after, set_count}}
 
 -- the kept offers of each Run that is seen: of a step, of steps, and of inodes
 abbrev pub run_offers_of_step : Layout → ℕ → Claims → Step → List (List Offer)
@@ -23,7 +23,7 @@ run_offers_of_owners v s (o ∷ os) = run_offers_of_steps v o.number (at_next_in
 unfoldable pub runs_until_reported : List Bool → List (List Offer) → ℕ
 runs_until_reported left [] = 0
 runs_until_reported left (kept ∷ runs) =
-    if set_count left == 0 then 0 else 1 + runs_until_reported (after_first left kept) runs
+    if set_count left == 0 then 0 else 1 + runs_until_reported (unreported_after left kept) runs
 
 -- how many Runs of an image phase 1b looks at
 unfoldable pub rescan_runs : Layout → List ℕ → ℕ

@@ -68,7 +68,7 @@ continues_after_root vol = is_directory (vol.class ROOTINO)
 abbrev pub is_short : (size : ℕ) → Bool
 is_short size = nat_lt size MINDIRSIZE
 
--- it isn't, and is no multiple of 512
+-- the size isn't less than that of `.` and `..`, and is no multiple of 512
 abbrev pub has_partial_chunk : (size : ℕ) → Bool
 has_partial_chunk size = not (is_short size) && not (size % DIRBLKSIZ == 0)
 
@@ -137,12 +137,12 @@ dotdot_lines (Found wrong_number wrong_type) attr path = reported wrong_number (
 abbrev pub dots_lines : HeaderDefects (List ℕ) → Attr → (path : List ℕ) → List TreeMessage
 dots_lines defects attr path = dot_lines defects.dot attr path ++ dotdot_lines defects.dotdot attr path
 
--- all of them, in this order
+-- all messages on a directory before those of its entries: on its size, its chunks, `.` and `..`
 unfoldable pub header_lines : HeaderDefects (List ℕ) → Attr → (path : List ℕ) → List TreeMessage
 header_lines defects attr path =
     size_lines defects attr path ++ (chunk_lines defects attr path ++ dots_lines defects attr path)
 
--- there is no message on it
+-- what is wrong with `.` or `..`, or with all before the entries, has no message
 abbrev pub is_dot_silent : {P : Type 0} → DotDefects P → Bool
 is_dot_silent Missing = false
 is_dot_silent (Other name) = false
@@ -230,7 +230,7 @@ verdict_lines Whiteout number attr path directory = []
 verdict_lines Unallocated number attr path directory = of_entry (UnallocatedLine attr path) ∷ []
 verdict_lines (Named defects) number attr path directory = defects_lines defects attr path directory
 
--- there is no message by it
+-- the verdict has no message
 abbrev pub is_silent : Verdict → Bool
 is_silent OutOfRange = false
 is_silent BadWhiteout = false
@@ -258,7 +258,7 @@ role_lines vol d Dotdot e verdict = []
 role_lines vol d Extra e verdict = extra_lines (attributes vol d) (dir_path (graph_of vol) d) e
 role_lines vol d Plain e verdict = plain_lines vol d e verdict
 
--- there is none
+-- an entry of this role, with this verdict, has no message
 abbrev pub is_role_silent : Role → Verdict → Bool
 is_role_silent Empty verdict = true
 is_role_silent Dot verdict = true

@@ -1,5 +1,5 @@
--- The most reads that a check makes of an image. A read is of one block, of one Run or part of a
--- directory, or of records that are together in the image.
+-- The most reads that a check makes of an image. A read is of one block, of a piece of the inode table, of one
+-- Run or part of a directory, of records that are together, or of a superblock.
 use Rattle.std.specs.{Prelude.{ℕ, ◌+◌, ◌*◌, ◌/◌, Option, Some, None}, Int.div_ceil}
 use Rattle.ffs_volume.specs.{declared.{Layout.Layout, constants.TheConstants.MAXPATHLEN}, Report.Memory.runs_limit}
 

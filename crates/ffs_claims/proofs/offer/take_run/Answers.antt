@@ -1,13 +1,13 @@
 use Rattle.std.proofs.Common.{ℕ, Option, None, Some, ◌+◌, ◌<◌, ◌≤◌, rules, sym, ◌∙◌, arith}
 use Rattle.std.proofs.lemmas.{Bool.Decides.nat_tests, Result.err_from_is_err_and}
 use Rattle.ffs_volume.specs.declared.Step.TheVariants.{Run}
-use Rattle.ffs_walk.specs.Counts.{entered}
+use Rattle.ffs_walk.specs.Counts.{indirect_in_step}
 use Rattle.ffs_workspace.specs.Holds.{claims_of}
 use Rattle.ffs_claims.proofs.{Inodes.run_more, StepsContinue.{run_stops, run_stops_later, run_said}}
 use Rattle.ffs_claims.proofs.offer.take_run.Goals as goal
 
 -- a Run more is counted, of whichever block it is
-counts : {old new : ℕ} (start len : ℕ) (block : Option ℕ) → old < new → old + entered (Run start len block) ≤ new
+counts : {old new : ℕ} (start len : ℕ) (block : Option ℕ) → old < new → old + indirect_in_step (Run start len block) ≤ new
 counts start len None more = omega (arith, more)
 counts start len (Some b) more = omega (arith, more)
 

@@ -1,7 +1,7 @@
 use Rattle.std.proofs.Common.{Result, Ok, ◌≡◌, ◌≤◌, ◌+◌, ◌-◌, ◌^◌, ◌<◌, ◌∷◌, [], arith, refl, ap, ◌∙◌, Err}
 use Rattle.std.proofs.lemmas.Result.{err_from_is_err_and}
 use Rattle.ffs_volume.{proofs.{RunBounds.runs_bounded, Results.fails_with}, specs.Blocks.BlockCheck.first_offer_lines}
-use Rattle.ffs_volume.specs.Blocks.{BlockCheck.{set_count, after_first}, KeptSteps.claims_before, Owners.owners_of}
+use Rattle.ffs_volume.specs.Blocks.{BlockCheck.{set_count, unreported_after}, KeptSteps.claims_before, Owners.owners_of}
 use Rattle.ffs_volume.specs.{Messages.Kinds.phase1b, Blocks.{Inodes.inodes_of, Claims.all_claims}}
 use Rattle.ffs_volume.{specs.Costs.RescanRuns.{runs_until_reported, rescan_runs}, proofs.OwnerLaws.before_next}
 use Rattle.ffs_volume.proofs.Sizes.{some_inodes}
@@ -94,7 +94,7 @@ returns-in_err-rewalk_inode-clause-again g c =
     rw (fails_with _ c.from_residual-in_err-rewalk_inode.ensures.1)
     (of_fault (Unit {0}) (Unit {0}) _ (λ bytes. of_lines (first_offer_lines d (kept_from v bytes n)))
     (λ bytes. of_lines (first_offer_lines d (offers_at v bytes notes n)))
-    (λ bytes. of_lines (first_offer_lines (after_first d (offers_at v bytes notes n))
+    (λ bytes. of_lines (first_offer_lines (unreported_after d (offers_at v bytes notes n))
     (kept_from v bytes (n + 1))))
     _ _ _ _ c.in_err-rewalk_inode.field-0.0 inv.said (λ bytes k. lines_split d _ _ _ _ (kept_next v bytes notes n
     (is_noted c.args.geometry.now.sound inv.low (omega arith) inv.claims k.1)) refl)
@@ -144,7 +144,7 @@ returns-in_err-rewalk_inode-clause-reads g c =
       last = λ bytes k.
           let noted = is_noted c.args.geometry.now.sound inv.low last inv.claims k.1.notes in
           let d = bits_of c.loop-number.workspace.duplicates in
-          let on = inodes_on v bytes notes n d (after_first d (offers_at v bytes notes n)) noted
+          let on = inodes_on v bytes notes n d (unreported_after d (offers_at v bytes notes n)) noted
           (some_left _ _ c.has_unreported_dups.ensures c.if-not-has_unreported_dups.false) refl in
           let few = read_failed_until {now' = g.I.Image.reads c.rewalk_inode.new.image} {m = rescan_end v bytes}
           c.args.geometry.now.sound last (omega (arith, on, inv.inodes bytes k))

@@ -2,7 +2,7 @@ use Rattle.std.proofs.Common.{arith, refl, ◌∙◌, ◌+◌, ◌*◌}
 use Rattle.ffs_maps.specs.Bits.{bits_of}
 use Rattle.ffs_groups.specs.Free.{bits_from, free_in}
 use Rattle.ffs_groups.proofs.{FreeWords.adds_all, FreeWords.adds_none, FreeWords.added_by, Sums.in_block}
-use Rattle.ffs_groups.proofs.free.FreeCounts.add_blocks.Goals as goal
+use Rattle.ffs_groups.proofs.free.FreeSpace.add_blocks.Goals as goal
 
 pub returns-in-Some-true : goal.returns-in-Some-true
 returns-in-Some-true c =

@@ -1,7 +1,7 @@
 use Rattle.std.proofs.Common.{◌-◌, ◌≤◌}
 use Rattle.ffs_maps.specs.Bits.{bits_of}
 use Rattle.ffs_groups.specs.Free.{bits_from, free_in, Added}
-use Rattle.ffs_groups.proofs.free.FreeCounts.add_words.Given as goal
+use Rattle.ffs_groups.proofs.free.FreeSpace.add_words.Given as goal
 
 abbrev pub invariant-loop-block : goal.invariant-loop-block
 invariant-loop-block l = record {

@@ -1,7 +1,7 @@
 use Rattle.std.proofs.Common.{arith, refl, ap, ◌≡◌, ◌+◌, ◌*◌, ◌/◌, ◌^◌, ◌≤◌}
 use Rattle.ffs_groups.{specs.Free.word_bits, proofs.Adding.{length_bits, added_more, added_below}}
 use Rattle.ffs_groups.proofs.FreeWords.{zero_word, full_word, added_single}
-use Rattle.ffs_groups.proofs.free.FreeCounts.add_word.Goals as goal
+use Rattle.ffs_groups.proofs.free.FreeSpace.add_word.Goals as goal
 
 pub add_block-requires : goal.add_block-requires
 add_block-requires c =

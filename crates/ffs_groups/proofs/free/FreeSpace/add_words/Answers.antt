@@ -3,7 +3,7 @@ use Rattle.std.proofs.lemmas.List.FromFn.{length-map-range_with_len}
 use Rattle.ffs_maps.specs.Bits.{bits_of}
 use Rattle.ffs_groups.specs.Free.{word_bits, bits_from, free_in}
 use Rattle.ffs_groups.proofs.Adding.{added_join, added_below, word_block, word_fits}
-use Rattle.ffs_groups.proofs.free.FreeCounts.add_words.Goals as goal
+use Rattle.ffs_groups.proofs.free.FreeSpace.add_words.Goals as goal
 
 pub add_word-requires : goal.add_word-requires
 add_word-requires c =

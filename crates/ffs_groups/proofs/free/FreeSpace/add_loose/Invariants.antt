@@ -1,7 +1,7 @@
 use Rattle.std.proofs.Common.{ℕ, ◌≡◌, ◌+◌, ◌-◌, ◌≤◌, slice_index, count_by, ◌==◌}
 use Rattle.ffs_volume.specs.{Groups.Records.free_stretches}
 use Rattle.ffs_groups.specs.Free.{word_bits}
-use Rattle.ffs_groups.proofs.free.FreeCounts.add_loose.Given as goal
+use Rattle.ffs_groups.proofs.free.FreeSpace.add_loose.Given as goal
 
 abbrev pub invariant-loop-index : goal.invariant-loop-index
 invariant-loop-index l = record {

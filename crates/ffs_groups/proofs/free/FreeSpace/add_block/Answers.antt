@@ -1,6 +1,6 @@
 use Rattle.std.proofs.Common.{arith}
 use Rattle.ffs_groups.proofs.FreeWords.{none_by_mask}
-use Rattle.ffs_groups.proofs.free.FreeCounts.add_block.Goals as goal
+use Rattle.ffs_groups.proofs.free.FreeSpace.add_block.Goals as goal
 
 pub returns-else-free-ne0 : goal.returns-else-free-ne0
 returns-else-free-ne0 c =

@@ -1,7 +1,7 @@
 use Rattle.std.proofs.Common.{arith}
 use Rattle.ffs_groups.proofs.{Stretches.next_stretch, Adding.{stretches_within, free_within}}
-use Rattle.ffs_groups.proofs.free.FreeCounts.add_loose.Goals.{At-loop-index}
-use Rattle.ffs_groups.proofs.free.FreeCounts.add_loose.Goals as goal
+use Rattle.ffs_groups.proofs.free.FreeSpace.add_loose.Goals.{At-loop-index}
+use Rattle.ffs_groups.proofs.free.FreeSpace.add_loose.Goals as goal
 
 pub end_stretch-requires : goal.end_stretch-requires
 end_stretch-requires c =
