@@ -5,7 +5,8 @@ use Rattle.std.proofs.{Common.{OnOk, None, Result}, lemmas.Result.on_err_weaker}
 use Rattle.ffs_image.specs.{Device.Device, Known.ForBytes}
 use Rattle.ffs_volume.specs.{Disk.Superblock.Superblock, Directories.Volumes.volume_of, Messages.Kinds.Message}
 use Rattle.ffs_volume.specs.{Messages.Kinds.{of_tree, phase2, phase3, phase4, phase5}, Report.Memory.runs_limit}
-use Rattle.ffs_volume.specs.Directories.{Connectivity.connectivity_lines, ReferenceCheck.reference_lines}
+use Rattle.ffs_volume.specs.Directories.{Connectivity.{connectivity_lines, unref_dir_lines}, ReferenceCheck.reference_lines}
+use Rattle.ffs_volume.specs.Directories.{ReferenceCheck.reference_lines_at}
 use Rattle.ffs_volume.specs.{Directories.PathnameCheck.{continues_after_root, pathname_lines}, Report.Reads.group_reads}
 use Rattle.ffs_volume.specs.Report.{Reads.{line_reads, sweep_reads}, Whole.{phase_lines, summary_of, file_count}}
 use Rattle.ffs_volume.specs.Report.Whole.{claimed_count, phase1_messages, phase1b_messages_if_dups, phase2_messages}
@@ -31,6 +32,7 @@ use Rattle.ffs_pathnames.specs.RootAnswers.{is_go}
 use Rattle.ffs_workspace.specs.{declared.workspace.Workspace.Workspace, Leaves.{LeavesBlockCheck, LeavesSurvey}}
 use Rattle.ffs_workspace.specs.{Ready.IsReady, Found.{WithFresh, WithBlockCheck, WithSurvey, WithFindings}}
 use Rattle.ffs_workspace.{specs.Holds.{HoldsBlockCheck, HoldsFindings}, proofs.Leaving.{claims_left, findings_held}}
+use Rattle.ffs_workspace.{specs.TableReads.blocks_with_lines, proofs.TableReadLaws.{reference_few, unref_few}}
 use Rattle.ffs_workspace.proofs.Leaving.{references_left, survey_left}
 
 -- the next point, or the end of all where a phase answers a fault
@@ -282,7 +284,7 @@ module _ (s : Superblock) where
         Stage s d w start reads (phase2_done s d w u root) on report now →
         Ran (WithSurvey s.layout on u) (λ bytes. phase3_messages s.layout bytes) on on' report report' r →
         ForBytes (WithSurvey s.layout on u)
-        (λ bytes. now' ≤ now + length (connectivity_lines (volume_of s.layout bytes))) →
+        (λ bytes. now' ≤ now + blocks_with_lines s.layout (unref_dir_lines (volume_of s.layout bytes))) →
         Paid 1 report report' now now' r → LeavesSurvey u u' → IsReady s.layout on' u' →
         Comes r (λ x. Stage s d w start reads (phase3_done s d w u' root) on' report' now')
         (λ fault. RunsPhases s d on' w u' start report' reads now' (Err fault))
@@ -290,8 +292,8 @@ module _ (s : Superblock) where
         let sure = root_stays at.sure survey.findings.block_check in
         next r (phase3_done s d w u' root) at (λ bytes k. (k.0, k.1.block_check, k.1.survey)) ran
         (spends_lines (group_reads s.layout) (λ bytes. length (connectivity_lines (volume_of s.layout bytes)))
-        (phase2_done s d w u root).left.known (phase3_done s d w u' root).left.known read paid
-        (λ bytes k. rw goes (omega arith)))
+        (phase2_done s d w u root).left.known (phase3_done s d w u' root).left.known
+        (λ bytes k. omega (arith, read bytes k, unref_few s.layout bytes)) paid (λ bytes k. rw goes (omega arith)))
         (λ bytes k. ap (λ go. after_phase2 go bytes s) goes) (λ bytes k. some_more phase4 _)
         (on_any r (sure, λ bytes k. grind (arith, claims_left, survey_left, references_left)))
         (at_error r sure.answers.dups) sure.answers.most ready
@@ -300,7 +302,7 @@ module _ (s : Superblock) where
         Stage s d w start reads (phase3_done s d w u root) on report now →
         Ran (WithFindings s.layout on u) (λ bytes. phase4_messages s.layout bytes) on on' report report' r →
         ForBytes (WithFindings s.layout on u)
-        (λ bytes. now' ≤ now + length (reference_lines (volume_of s.layout bytes))) →
+        (λ bytes. now' ≤ now + blocks_with_lines s.layout (reference_lines_at (volume_of s.layout bytes))) →
         Paid 1 report report' now now' r → u' ≡ record u { windows = u'.windows } → IsReady s.layout on' u' →
         Comes r (λ x. Stage s d w start reads (phase4_done s d w u' root) on' report' now')
         (λ fault. RunsPhases s d on' w u' start report' reads now' (Err fault))
@@ -308,7 +310,8 @@ module _ (s : Superblock) where
         let sure = root_stays at.sure (windows_stay held) in
         next r (phase4_done s d w u' root) at (λ bytes k. k) ran
         (spends_lines (group_reads s.layout) (λ bytes. length (reference_lines (volume_of s.layout bytes)))
-        (phase3_done s d w u root).left.known (phase4_done s d w u' root).left.known read paid (λ bytes k. omega arith))
+        (phase3_done s d w u root).left.known (phase4_done s d w u' root).left.known
+        (λ bytes k. omega (arith, read bytes k, reference_few s.layout bytes)) paid (λ bytes k. omega arith))
         (λ bytes k. refl) (λ bytes k. some_more phase5 _)
         (on_any r (sure, λ bytes k. findings_held s.layout bytes u u' held k.1)) (at_error r sure.answers.dups)
         sure.answers.most ready

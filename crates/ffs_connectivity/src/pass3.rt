@@ -4,11 +4,12 @@ ghost use Rattle.std.specs.Prelude.{◌≡◌, ◌<◌, ◌≤◌, ◌+◌, ◌^
 ghost use Rattle.ffs_report.specs.{Paid.Paid, Fails.FailsIn, PhaseOutcome.{HeadingFirst, ImageAfter, PhaseReports}};
 ghost use Rattle.ffs_image.specs.Known.{ForBytes};
 ghost use Rattle.ffs_report.specs.Progress.{progress};
-ghost use Rattle.ffs_volume.specs.{Directories.Connectivity.connectivity_lines, Report.Whole.phase3_messages};
+ghost use Rattle.ffs_volume.specs.{Directories.Connectivity.unref_dir_lines, Report.Whole.phase3_messages};
 ghost use Rattle.ffs_volume.specs.Messages.Kinds as messages;
 ghost use Rattle.ffs_volume.specs.Directories.Volumes.{volume_of};
 ghost use Rattle.ffs_connectivity.specs.{BeforeFault.SaidBeforeDirectory, Unreached.IsFirstUnreached};
 ghost use Rattle.ffs_workspace.specs.{Found.WithSurvey, Leaves.LeavesSurvey, Ready.IsReady, Tables.IsTableSector};
+ghost use Rattle.ffs_workspace.specs.TableReads.{blocks_with_lines};
 
 use crate::cycles::flag_leaders;
 use crate::unref::report_unref;
@@ -63,11 +64,11 @@ pub fn phase3<I: Image, W: Output>(
         (progress W.sink report.new) result }
     ensures leaves { LeavesSurvey workspace.old workspace.new }
 
-    // Known bytes are read at most once for each of their lines, and any image once for each
-    // message that was begun.
+    // Known bytes are read at most once for each block of the inode table that has an inode with a
+    // line, and any image once for each message that was begun.
     ensures reads { ForBytes (WithSurvey geometry.now.layout (I.device image.old) workspace.old)
-        (λ bytes. I.reads image.new ≤ I.reads image.old + length
-        (connectivity_lines (volume_of geometry.now.layout bytes))) }
+        (λ bytes. I.reads image.new ≤ I.reads image.old + blocks_with_lines geometry.now.layout
+        (unref_dir_lines (volume_of geometry.now.layout bytes))) }
     ensures paid { Paid 1 (progress W.sink report.old) (progress W.sink report.new)
         (I.reads image.old) (I.reads image.new) result }
 

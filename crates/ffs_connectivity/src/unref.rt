@@ -1,6 +1,6 @@
 //! The line UNREF DIR, on one directory of each lost tree or cycle.
 
-ghost use Rattle.std.specs.Prelude.{◌≡◌, ◌<◌, ◌≤◌, ◌+◌, length, map};
+ghost use Rattle.std.specs.Prelude.{◌≡◌, ◌<◌, map};
 ghost use Rattle.ffs_report.specs.{Paid.Paid, Fails.FailsIn, PhaseOutcome.{ImageAfter, PhaseReports}};
 ghost use Rattle.ffs_report.specs.Progress.{progress};
 ghost use Rattle.ffs_image.specs.Known.{ForBytes};
@@ -8,6 +8,8 @@ ghost use Rattle.ffs_volume.specs.{Directories.Volumes.volume_of, Messages.Kinds
 ghost use Rattle.ffs_volume.specs.{Directories.Connectivity.unref_dir_lines, declared.Layout.Layout};
 ghost use Rattle.ffs_volume.specs.Blocks.Inodes.{inodes_of};
 ghost use Rattle.ffs_workspace.specs.{Found.WithSurvey, Ready.LeavesAllButWindows, Tables.IsTableSector, Lengths.IsFor};
+ghost use Rattle.ffs_workspace.specs.TableReads.{ReadsForLines};
+ghost use Rattle.ffs_walk.specs.Windows.{image_with};
 ghost use Rattle.ffs_connectivity.specs.{BeforeFault.FailsBeforeUnref, Phase3.{CanReportUnref, is_unref_by}};
 
 use ffs_image::Image;
@@ -67,8 +69,10 @@ pub fn report_unref<I: Image, W: Output>(
         (λ bytes. map of_tree (unref_dir_lines (volume_of geometry.now.layout bytes) number))
         (progress W.sink report.old) (progress W.sink report.new) result }
     ensures reads { ForBytes (WithSurvey geometry.now.layout (I.device image.old) workspace.old)
-        (λ bytes. I.reads image.new ≤ I.reads image.old + length
-        (unref_dir_lines (volume_of geometry.now.layout bytes) number)) }
+        (λ bytes. ReadsForLines geometry.now.layout number
+        (unref_dir_lines (volume_of geometry.now.layout bytes) number)
+        (image_with I.Image image.old workspace.old.windows.table)
+        (image_with I.Image image.new workspace.new.windows.table) result) }
     ensures sector { FailsIn (IsTableSector geometry.now.layout) result }
 
     // A read that failed is of this inode, before its line is said.

@@ -137,6 +137,14 @@ silent_by v b w i false low f e right = no_lines v b w i f.block_check e
 silent_by v b w i true low f e right = met_lines v b w i low f e (right e)
 
 -- the inodes that are passed over have no lines
+pub none_passed : (v : Layout) (b : List ℕ) (w : Workspace) (d k : ℕ) → HoldsFindings v b w →
+    ((j : ℕ) → j < k → is_allocated (class_of_kind (slice_index w.kinds.items (d + j))) ≡ true →
+    is_right_by w (d + j) ≡ true) → d + k ≤ inodes_of v → (x : ℕ) → d ≤ x → x < d + k →
+    reference_lines_at (volume_of v b) x ≡ []
+none_passed v b w d k f right low x from below =
+    let q : d + (x - d) ≡ x = omega arith in
+    rw q at (silent_by v b w (d + (x - d)) _ (omega arith) f refl (right (x - d) (omega arith)))
+
 pub passed_lines : (v : Layout) (b : List ℕ) (w : Workspace) (d k n : ℕ) → HoldsFindings v b w →
     ((j : ℕ) → j < k → is_allocated (class_of_kind (slice_index w.kinds.items (d + j))) ≡ true →
     is_right_by w (d + j) ≡ true) → d + k ≤ n → n ≡ inodes_of v →
@@ -146,7 +154,7 @@ passed_lines v b w d k n f right low all =
     let lines = reference_lines_at (volume_of v b) in
     let q : n - d ≡ k + (n - (d + k)) = omega (arith, low) in
     let none : (j : ℕ) → j < k → lines (d + j) ≡ [] = λ j h.
-    silent_by v b w (d + j) _ (omega (arith, h, low, all)) f refl (right j h) in
+    none_passed v b w d k f right (omega (arith, low, all)) (d + j) (omega arith) (omega (arith, h)) in
     ap (map of_tree) (ap (lines_from lines d) q ∙ skip_none lines k d (n - (d + k)) none)
 
 -- ---- an inode that is dead, or has other references than links

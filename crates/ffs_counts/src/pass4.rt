@@ -2,13 +2,15 @@
 
 ghost use Rattle.std.specs.Prelude.{◌≡◌, ◌<◌, ◌≤◌, ◌+◌, ℕ, false, map, length, slice_index, vec_len};
 ghost use Rattle.ffs_volume.specs.{Messages.Kinds.of_tree, Report.Whole.phase4_messages};
-ghost use Rattle.ffs_volume.specs.Directories.{ReferenceCheck.{reference_lines, reference_lines_at}, Volumes.volume_of};
+ghost use Rattle.ffs_volume.specs.Directories.{ReferenceCheck.reference_lines_at, Volumes.volume_of};
 ghost use Rattle.ffs_report.specs.{Fails.FailsIn, Paid.Paid};
 ghost use Rattle.ffs_image.specs.Known.{ForBytes};
 ghost use Rattle.ffs_report.specs.{PhaseOutcome.{HeadingFirst, ImageAfter, PhaseReports}};
 ghost use Rattle.ffs_report.specs.Progress.{progress};
 ghost use Rattle.ffs_volume.specs.Messages.Kinds as messages;
 ghost use Rattle.ffs_workspace.specs.{Found.WithFindings, Ready.{IsReady, LeavesAllButWindows}, Tables.{FailsBeforeLine, IsTableSector}};
+ghost use Rattle.ffs_workspace.specs.TableReads.{ReadsForLines, blocks_with_lines};
+ghost use Rattle.ffs_walk.specs.Windows.{image_with};
 ghost use Rattle.ffs_counts.specs.{Ready.{CanCheckAllocated, HasElements, AreUnallocated, AreUnallocatedFrom}, References.is_dead_by};
 ghost use Rattle.ffs_counts.specs.BeforeFault.{SaidBeforeInode};
 ghost use Rattle.ffs_counts.specs.{References.{is_right_by}, Skipped.{AreRightFrom, AreSkippedFrom, CanSkipFrom}};
@@ -176,8 +178,10 @@ fn report_references<I: Image, W: Output>(
         (λ bytes. map of_tree (reference_lines_at (volume_of geometry.now.layout bytes) number))
         (progress W.sink report.old) (progress W.sink report.new) result }
     ensures reads { ForBytes (WithFindings geometry.now.layout (I.device image.old) workspace.old)
-        (λ bytes. I.reads image.new ≤ I.reads image.old + length
-        (reference_lines_at (volume_of geometry.now.layout bytes) number)) }
+        (λ bytes. ReadsForLines geometry.now.layout number
+        (reference_lines_at (volume_of geometry.now.layout bytes) number)
+        (image_with I.Image image.old workspace.old.windows.table)
+        (image_with I.Image image.new workspace.new.windows.table) result) }
     ensures paid { Paid 1 (progress W.sink report.old) (progress W.sink report.new)
         (I.reads image.old) (I.reads image.new) result }
     ensures sector { FailsIn (IsTableSector geometry.now.layout) result }
@@ -227,11 +231,11 @@ pub fn phase4<I: Image, W: Output>(
         (progress W.sink report.new) result }
     ensures leaves { workspace.new ≡ record workspace.old { windows = workspace.new.windows } }
 
-    // Known bytes are read at most once for each of their lines, and any image once for each
-    // message that was begun.
+    // Known bytes are read at most once for each block of the inode table that has an inode with a
+    // line, and any image once for each message that was begun.
     ensures reads { ForBytes (WithFindings geometry.now.layout (I.device image.old) workspace.old)
-        (λ bytes. I.reads image.new ≤ I.reads image.old + length
-        (reference_lines (volume_of geometry.now.layout bytes))) }
+        (λ bytes. I.reads image.new ≤ I.reads image.old + blocks_with_lines geometry.now.layout
+        (reference_lines_at (volume_of geometry.now.layout bytes))) }
     ensures paid { Paid 1 (progress W.sink report.old) (progress W.sink report.new)
         (I.reads image.old) (I.reads image.new) result }
 

@@ -19,6 +19,7 @@ pub struct EntryDefects {
 }
 
 /// The verdict on a plain entry.
+/// Three variants have the name of their message (`EntryLine`).
 #[derive(Clone, Copy, Debug, PartialEq, Eq)]
 pub enum Verdict {
     /// It names an inode that the volume doesn't have.

@@ -10,3 +10,4 @@ pub mod Leaving
 pub mod Readiness
 mod Requests
 mod DupCounts
+pub mod TableReadLaws

@@ -1,6 +1,6 @@
 -- What contracts say of a workspace, in the order to read it: each file rests on those before it.
 --
--- Its form: `Tables` is about the window on the inode table, `Lengths` about the lengths of all lists (IsFor) and what
+-- Its form: `Tables` is about the window on the inode table, `TableReads` about how often it is read, `Lengths` about the lengths of all lists (IsFor) and what
 -- the windows hold.
 --
 -- What it holds: `Holds` has what each phase leaves in it for the next ones: HoldsPhase1, HoldsBlockCheck (phase 1b and
@@ -15,6 +15,7 @@
 -- WithBlockCheck, WithSurvey and WithFindings are known when a phase begins. `Moments` has an image and a workspace
 -- at a time.
 pub mod Tables
+pub mod TableReads
 pub mod Lengths
 pub mod Holds
 pub mod Ready

@@ -188,6 +188,7 @@ impl Workspace {
         ensures only { self.new ≡ record self.old { windows = self.new.windows } }
         ensures forgets { (v : Layout) (d : Device) → IsReady v d self.old → CanRead v d self.new }
         ensures begins { self.new.windows.table.first ≡ self.old.windows.table.first }
+        ensures empty { self.new.windows.table.count ≡ 0 }
     {
         self.windows.table.forget();
         self.windows.table.window.length = 0;

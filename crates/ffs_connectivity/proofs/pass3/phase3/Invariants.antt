@@ -1,9 +1,10 @@
-use Rattle.std.proofs.Common.{◌≡◌, ◌+◌, ◌-◌, ◌≤◌, length, Ok}
+use Rattle.std.proofs.Common.{◌≡◌, ◌≤◌, Ok}
 use Rattle.ffs_report.specs.{Paid.Paid, PhaseOutcome.{HeadingFirst, SaidOf}, Progress.progress}
 use Rattle.ffs_image.specs.Known.{ForBytes}
-use Rattle.ffs_volume.specs.Directories.{Connectivity.{connectivity_lines, unref_dir_lines}, Volumes.volume_of}
-use Rattle.ffs_volume.specs.{Report.Whole.phase3_messages, Messages.Kinds.{lines_from, phase3}, Blocks.Inodes.inodes_of}
+use Rattle.ffs_volume.specs.Directories.{Connectivity.unref_dir_lines, Volumes.volume_of}
+use Rattle.ffs_volume.specs.{Report.Whole.phase3_messages, Messages.Kinds.phase3}
 use Rattle.ffs_workspace.specs.{Found.WithSurvey, Leaves.LeavesSurvey, Ready.CanRead}
+use Rattle.ffs_workspace.proofs.TableReadLaws.{HaveBeenRead}
 use Rattle.ffs_connectivity.{specs.Leaders.HasLeaders, proofs.UnrefLines.lines_from_dir}
 use Rattle.ffs_connectivity.proofs.pass3.phase3.Given as goal
 
@@ -15,9 +16,8 @@ invariant-loop-number g l = let v = l.geometry.layout in record {
   survey : LeavesSurvey l.fn.workspace l.workspace;
   leaders : HasLeaders l.workspace;
   reads : ForBytes (WithSurvey v (g.I.Image.device l.fn.image) l.fn.workspace)
-      (λ bytes. g.I.Image.reads l.image + length (lines_from (unref_dir_lines (volume_of v bytes)) l.number
-      (inodes_of v - l.number))
-      ≤ g.I.Image.reads l.fn.image + length (connectivity_lines (volume_of v bytes)));
+      (λ bytes. HaveBeenRead v (unref_dir_lines (volume_of v bytes)) l.number (g.I.Image.reads l.fn.image)
+      (g.I.Image.reads l.image) l.workspace.windows.table);
   said : SaidOf (WithSurvey v (g.I.Image.device l.fn.image) l.fn.workspace)
       (lines_from_dir v l.number)
       (phase3_messages v)

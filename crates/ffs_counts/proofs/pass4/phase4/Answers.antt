@@ -1,13 +1,14 @@
 use Rattle.std.proofs.{Common.{◌≡◌, ◌∙◌, ◌+◌, arith, Err, Ok, refl}, lemmas.Result.err_from_is_err_and}
 use Rattle.ffs_volume.specs.Directories.{ReferenceCheck.reference_lines_at, Volumes.volume_of}
-use Rattle.ffs_volume.{proofs.Numbered.{as_many, count_next, from_next, from_end}, specs.Blocks.Inodes.inodes_of}
+use Rattle.ffs_volume.{proofs.Numbered.{from_next, from_end}, specs.Blocks.Inodes.inodes_of}
 use Rattle.ffs_volume.proofs.Results.{fails_with}
 use Rattle.ffs_report.proofs.{Paying.{paid_answer, paid_fault, paid_says, paid_stops, paid_then}, Reporting.of_fault}
 use Rattle.ffs_report.proofs.Reporting.{of_part, of_same, reports_knowing, said_knows, says_heading, heading_alone}
 use Rattle.ffs_report.proofs.Reporting.{heading_part, stops_heading}
 use Rattle.ffs_image.specs.Known.{ForBytes}
 use Rattle.ffs_workspace.{specs.Found.WithFindings, proofs.Leaving.findings_held}
-use Rattle.ffs_counts.proofs.{Holding.{held_on, lines_after, lines_begin, passed_lines}, InodesBelow.fails_before}
+use Rattle.ffs_workspace.proofs.TableReadLaws.{blocks_more, none_read, passed_over, read_counted, read_next}
+use Rattle.ffs_counts.proofs.{Holding.{held_on, lines_after, lines_begin, none_passed, passed_lines}, InodesBelow.fails_before}
 use Rattle.ffs_counts.proofs.pass4.phase4.Goals.{After-skipped_from-skipped, At-loop-number}
 use Rattle.ffs_counts.proofs.pass4.phase4.Given as given
 use Rattle.ffs_counts.proofs.pass4.phase4.Goals as goal
@@ -44,7 +45,7 @@ loop-number-init g c =
       ready = c.forget_windows.ensures.forgets v _ c.requires.ready;
       device = refl;
       held = c.forget_windows.ensures.only;
-      reads = λ bytes k. let all = as_many _ _ (lines_begin v bytes) in omega (arith, all);
+      reads = λ bytes k. none_read v _ _ _ _ c.forget_windows.ensures.empty (omega arith);
       said = says_heading (λ bytes k. lines_begin v bytes) c.in_ok-say.ensures.said;
       heading = heading_alone c.in_ok-say.ensures.said;
       paid = paid_says _ c.in_ok-say.ensures.said (omega arith) (omega arith);
@@ -81,7 +82,7 @@ loop-number-preserved-then-skipped-eq0 g c =
       ready = ok.stays.can_read;
       device = ok.faults ∙ inv.device;
       held = held_on c.args.workspace.now c.loop-number.workspace c.report_references.new.workspace inv.held ok.stays.held;
-      reads = grind (arith, count_next);
+      reads = λ bytes k. read_next v _ n _ _ _ c.args.geometry.now.sound (inv.reads bytes k) tt (ok.reads bytes (more bytes k));
       said = of_part inv.said
           (λ bytes k. from_next (reference_lines_at (volume_of v bytes)) n (inodes_of v)
           (omega (arith, c.loop-number-test.true)))
@@ -91,7 +92,24 @@ loop-number-preserved-then-skipped-eq0 g c =
     }
 
 pub loop-number-preserved : goal.loop-number-preserved
-loop-number-preserved g c = grind (arith, passed, as_many, of_same)
+loop-number-preserved g c =
+    let v = c.args.geometry.now.layout in
+    let inv = c.loop-number.invariant in
+    let n = c.loop-number.number in
+    let at = goal.at.loop-number-preserved g c in
+    let n' = n + c.skipped_from-skipped.result in
+    record {
+      within = omega arith;
+      ready = inv.ready;
+      device = inv.device;
+      held = inv.held;
+      reads = λ bytes k. passed_over v (reference_lines_at (volume_of v bytes)) n n' _ _ _ (omega arith)
+          (none_passed v bytes c.loop-number.workspace n c.skipped_from-skipped.result
+          (known g at.At-loop-number bytes k).1 c.skipped_from-skipped.ensures.right (omega arith)) (inv.reads bytes k);
+      said = grind (arith, passed, of_same);
+      heading = inv.heading;
+      paid = inv.paid;
+    }
 
 pub returns-clause-text : goal.returns-clause-text
 returns-clause-text g c = grind (arith, of_same, from_end)
@@ -100,7 +118,14 @@ pub returns-in_err-say-clause-paid : goal.returns-in_err-say-clause-paid
 returns-in_err-say-clause-paid g c = grind (arith, err_from_is_err_and, paid_stops)
 
 pub returns-in_err-report_references-clause-reads : goal.returns-in_err-report_references-clause-reads
-returns-in_err-report_references-clause-reads g c = grind (arith, count_next, known)
+returns-in_err-report_references-clause-reads g c bytes k =
+    let v = c.args.geometry.now.layout in
+    let n = c.loop-number.number in
+    let more = known g (goal.at.returns-in_err-report_references-clause-reads g c).At-loop-number in
+    let lines = reference_lines_at (volume_of v bytes) in
+    let few = read_counted v lines n _ _ _ c.args.geometry.now.sound (c.loop-number.invariant.reads bytes k) _
+    (c.in_err-report_references.ensures.reads bytes (more bytes k)) in
+    omega (arith, few, blocks_more v lines (n + 1) (inodes_of v) (omega arith))
 
 pub returns-in_err-report_references-clause-paid : goal.returns-in_err-report_references-clause-paid
 returns-in_err-report_references-clause-paid g c = grind (arith, err_from_is_err_and, paid_then, paid_fault)

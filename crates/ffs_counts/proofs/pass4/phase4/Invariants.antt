@@ -1,9 +1,10 @@
-use Rattle.std.proofs.Common.{◌≡◌, ◌+◌, ◌-◌, ◌≤◌, length, Ok}
+use Rattle.std.proofs.Common.{◌≡◌, ◌-◌, ◌≤◌, Ok}
 use Rattle.ffs_report.specs.{Paid.Paid, PhaseOutcome.{HeadingFirst, SaidOf}, Progress.progress}
 use Rattle.ffs_image.specs.Known.{ForBytes}
-use Rattle.ffs_volume.specs.Directories.{ReferenceCheck.{reference_lines_at, reference_lines}, Volumes.volume_of}
-use Rattle.ffs_volume.specs.{Messages.Kinds.{lines_from, phase4}, Report.Whole.phase4_messages, Blocks.Inodes.inodes_of}
+use Rattle.ffs_volume.specs.Directories.{ReferenceCheck.reference_lines_at, Volumes.volume_of}
+use Rattle.ffs_volume.specs.{Messages.Kinds.phase4, Report.Whole.phase4_messages}
 use Rattle.ffs_workspace.specs.{Found.WithFindings, Ready.CanRead}
+use Rattle.ffs_workspace.proofs.TableReadLaws.{HaveBeenRead}
 use Rattle.ffs_counts.proofs.Holding.{lines_after}
 use Rattle.ffs_counts.proofs.pass4.phase4.Given as goal
 
@@ -14,10 +15,8 @@ invariant-loop-number g l = record {
   device : g.I.Image.device l.image ≡ g.I.Image.device l.fn.image;
   held : l.workspace ≡ record l.fn.workspace { windows = l.workspace.windows };
   reads : ForBytes (WithFindings l.geometry.layout (g.I.Image.device l.fn.image) l.fn.workspace)
-      (λ bytes. g.I.Image.reads l.image
-      + length (lines_from (reference_lines_at (volume_of l.geometry.layout bytes)) l.number
-      (inodes_of l.geometry.layout - l.number))
-      ≤ g.I.Image.reads l.fn.image + length (reference_lines (volume_of l.geometry.layout bytes)));
+      (λ bytes. HaveBeenRead l.geometry.layout (reference_lines_at (volume_of l.geometry.layout bytes)) l.number
+      (g.I.Image.reads l.fn.image) (g.I.Image.reads l.image) l.workspace.windows.table);
   said : SaidOf (WithFindings l.geometry.layout (g.I.Image.device l.fn.image) l.fn.workspace)
       (lines_after l.geometry.layout l.number)
       (phase4_messages l.geometry.layout)

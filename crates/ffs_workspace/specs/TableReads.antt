@@ -1,0 +1,39 @@
+-- How often the inode table is read for lines that show an inode: once for each of its blocks that has such an inode.
+use Rattle.std.specs.Prelude.{◌≡◌, ◌+◌, ◌/◌, ◌<◌, ◌≤◌, ◌==◌, ℕ, zero, suc, Bool, ◌&&◌, not, nat_lt, cond, List, [], length}
+use Rattle.std.specs.Prelude.{Result, OnOk}
+use Rattle.ffs_volume.specs.{declared.Layout.Layout, Blocks.Inodes.inodes_of, Disk.Search.some_below, Messages.Kinds.TreeMessage}
+use Rattle.ffs_walk.specs.Windows.{ImageWith}
+use Rattle.ffs_workspace.specs.{declared.table.Table.Table, Tables.{HoldsInode, HoldsPiece}}
+
+-- something is reported of the inode x
+abbrev pub has_line : (lines : ℕ → List TreeMessage) → (x : ℕ) → Bool
+has_line lines x = nat_lt 0 (length (lines x))
+
+-- the inode x has a line, and no lesser one of its block has: each group's table is whole blocks of v.inopb inodes,
+-- so two inodes are in one block where x / v.inopb is the same
+abbrev pub is_first_of_block : Layout → (lines : ℕ → List TreeMessage) → (x : ℕ) → Bool
+is_first_of_block v lines x =
+    has_line lines x && not (some_below (λ y. has_line lines y && (y / v.inopb == x / v.inopb)) x)
+
+-- how many blocks of the inode table have an inode below n with a line
+unfoldable pub blocks_below : Layout → (lines : ℕ → List TreeMessage) → (n : ℕ) → ℕ
+blocks_below v lines zero = 0
+blocks_below v lines (suc n) = cond (is_first_of_block v lines n) 1 0 + blocks_below v lines n
+
+-- how many blocks of the inode table have an inode with a line
+abbrev pub blocks_with_lines : Layout → (lines : ℕ → List TreeMessage) → ℕ
+blocks_with_lines v lines = blocks_below v lines (inodes_of v)
+
+-- an image and its table are read no more, and the table is as it was
+pub record IsUnread (old new : ImageWith Table) : Type 0 where
+  pub reads : new.reads ≤ old.reads
+  pub table : new.cache ≡ old.cache
+
+-- the inode x, which has these lines, is looked at: nothing is read where it has none or the table holds it, else
+-- its block, once
+pub record ReadsForLines {T E : Type 0} (v : Layout) (x : ℕ) (lines : List TreeMessage) (old new : ImageWith Table)
+    (result : Result T E) : Type 0 where
+  pub none : lines ≡ [] → IsUnread old new
+  pub again : HoldsInode old.cache x → IsUnread old new
+  pub once : new.reads ≤ old.reads + 1
+  pub block : 0 < length lines → (HoldsInode old.cache x → ⊥) → OnOk result (HoldsPiece v v.inopb x new.cache)
