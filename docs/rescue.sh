@@ -23,6 +23,7 @@
 #   recover IMAGE PLACE [I]  copies what has a name (below directory I) into a directory by tsk_recover of Sleuthkit. That would write elsewhere
 #                            where a name is or has in it `..`, beside slashes: then nothing is copied. What has no place of its own there, or
 #                            has too long a path, becomes PLACE.I, by its inode I
+#   copy_inode IMAGE I FILE  copies the bytes of inode I, whatever its mode is, into a file. Holes, and what can't be read, take no place in it
 #   unnamed                  copies what no entry names, by the report, from the image `from` into a directory unnamed.d
 #   bad_areas START          what ffs_find owner prints of each fragment in the bad areas of copy.map, where the volume begins at sector START
 #                            list_names, recover and unnamed name the inodes that can't be read to their end, as where a size is more than the
@@ -36,7 +37,8 @@
 #   directories              puts anew in further.img the inode of each directory that has its `.` among the entries on standard input,
 #                            where that is free, in fragments that nothing has. What comes after its first fragment is taken
 #                            where its first entry didn't fit before. Its links are 2, and its mode 700 (755 of the root)
-#   new_root F               puts inode 2 anew in further.img, as a directory in the free fragment F that has nothing but `.` and `..`
+#   new_root F               puts inode 2 anew in further.img, as a directory that has nothing but `.` and `..`, in the fragment F, which is free,
+#                            or lost and all zeros
 #   zeros B                  makes the indirect block at fragment B of further.img zeros, where it is one of one file alone
 #   refill B                 the same, and names the blocks of the file list in it, a line each, in its order
 
@@ -254,6 +256,7 @@ is_whole() {
 list_names() (
     # shellcheck disable=SC2030,SC2031
     export LC_ALL=C
+    # shellcheck disable=SC2030
     how='' tab=$(printf '\t') done=" " left='' status=0
     [ "$1" != -m ] || { how="-m"; shift; }
     image=$(bounded "$1" 40000) || exit 1
@@ -272,12 +275,26 @@ list_names() (
     exit $status
 )
 
+# again IMAGE PLACE [I]: copies the files that tsk_recover, by what it `said`, couldn't write. What can't be read of them is zeros
+# shellcheck disable=SC2031
+again() {
+    {
+        printf '%s\n' "$said" | start="Error writing file: $2/" awk '
+            index($0, ENVIRON["start"]) == 1 { $0 = substr($0, length(ENVIRON["start"]) + 1); sub("^/*", ""); print }'
+        echo
+        listed -r -u -p -f ufs1 "$1" ${3:+"$3"}
+    } | awk -F '\t' '!$0 { listed = 1 } !listed { wanted[$0] = 1; next }
+        $1 ~ /^.\/[rl]/ && $2 in wanted { sub(/:$/, "", $1); sub(/.* /, "", $1); sub(/[^0-9].*/, "", $1); print $1 "\t" $2 }' |
+        while IFS=$tab read -r number name; do copy_inode "$1" "$number" "$2/$name" || :; done
+}
+
 # recovered IMAGE PLACE [I]: as recover, of an image where no size is too large
 recovered() (
     # shellcheck disable=SC2030,SC2031
     export LC_ALL=C
     tab=$(printf '\t') done=" " left='' status=0
     todo="${3-}$tab$2"
+    exec 3>&1
     while [ "$todo" ]; do
         next_of || continue
         left=$(listed -r -u -p -f ufs1 "$1" ${i:+"$i"} | { sort -t "$tab" -k 2 || echo fault; } | awk -F "$tab" -v before=${#path} '
@@ -288,7 +305,8 @@ recovered() (
         away=''
         case $left in *away*) away=$(printf '%s\n' "$left" | grep '^away' | cut -f 4) ;; esac
         [ -z "$away" ] || { complain "recover: of $1 nothing is copied into $path, since a name leads out of it: $away" || status=1; continue; }
-        tsk_recover -a ${i:+-d "$i"} -f ufs1 "$1" "$path" || status=1
+        said=$({ tsk_recover -a ${i:+-d "$i"} -f ufs1 "$1" "$path" >&3; } 2>&1) || status=1
+        [ -z "$said" ] || { complain "$said" || status=1; again "$1" "$path" ${i:+"$i"} || status=1; }
         while IFS=$tab read -r kind mark number name; do
             to=$path/$name
             case $mark in =) to=$2.$number ;; esac
@@ -300,7 +318,7 @@ recovered() (
             [ "$to" != "$2.$number" ] || echo "recover: $name, inode $number, is copied as $to"
             case $kind in
                 D) todo=$todo$newline$number$tab$to ;;
-                F) mkdir -p "$(dirname "$to")" && icat -f ufs1 "$1" "$number" | dd of="$to" conv=sparse status=none || status=1 ;;
+                F) mkdir -p "$(dirname "$to")" && copy_inode "$1" "$number" "$to" || status=1 ;;
             esac
         done <<EOF
 $left
@@ -320,13 +338,50 @@ recover() (
     exit $status
 )
 
+copy_inode() {
+    perl -e '($name, $i, $file) = @ARGV; open F, "<", $name or die "$name: $!\n"; seek F, 8192, 0; read F, $super, 1376;
+        ($word, $half, $quad) = substr($super, 1372) eq "\x54\x19\x01\0" ? qw(V v Q<) : qw(N n Q>);
+        ($iblkno, $cgoffset, $cgmask, $end, $ncg, $bsize, $fsize, $ipg, $fpg) = (unpack "$word*", $super)[4, 6, 7, 9, 11 .. 13, 46, 47];
+        $i =~ /^[0-9]+$/ && $i < $ncg * $ipg or die "copy_inode: $name has no inode $i\n";
+        ($n, $frag, $c, $last) = ($bsize / 4, $bsize / $fsize, int($i / $ipg), 0);
+        seek F, ($fpg * $c + $cgoffset * ($c & ~$cgmask & 0xffffffff) + $iblkno) * $fsize + 128 * ($i % $ipg), 0; read F, $inode, 128;
+        ($mode, $bytes, @to) = unpack "$half x6 $quad x24 ${word}15 x4 $word", $inode; $held = pop @to;
+        open TO, ">", $file or die "$file: $!\n";
+        sub piece {
+            my ($f, $length) = @_;
+            seek F, $f * $fsize, 0; $unread++ if $f * $fsize + $length > $end * $fsize || read(F, my $piece, $length) != $length;
+            $piece;
+        }
+        sub block {
+            my ($f, $k) = @_;
+            my $piece = piece($f, $bytes - $k * $bsize < $bsize ? $bytes - $k * $bsize : $bsize); $last = ($k + 1) * $bsize;
+            seek TO, $k * $bsize, 0; print TO $piece or die "$file: $!\n" if $piece =~ /[^\0]/;
+        }
+        sub below {
+            my ($f, $level, $k) = @_; my @words = $read{$f}++ ? () : unpack "$word*", piece($f, $bsize);
+            for (@words) {
+                last if $k * $bsize >= $bytes;
+                $level > 1 ? below($_, $level - 1, $k) : block($_, $k) if $_;
+                $k += $n ** ($level - 1);
+            }
+        }
+        if (($mode & 0170000) == 0120000 && !$held && $bytes < 60) { print TO substr $inode, 40, $bytes; $last = $bytes }
+        else {
+            for ($k = 0; $k < 12; $k++) { block($to[$k], $k) if $to[$k] && $k * $bsize < $bytes }
+            for ($level = 1; $level < 4; $k += $n ** $level++) { below($to[11 + $level], $level, $k) if $to[11 + $level] }
+        }
+        print STDERR "inode $i: its size is $bytes, and the copy ends with its last block\n" and $bytes = $last if $bytes > $last + $end * $fsize;
+        close TO and truncate $file, $bytes or die "$file: $!\n";
+        die "inode $i: pieces that are outside of the volume, or of the image, have zeros: $unread\n" if $unread' "$@"
+}
+
 unnamed() (
     image=$(bounded "$from" 100000 40000 120000) || exit 1
     mkdir -p unnamed.d
     { fsck_ffs -n copy.img; echo "status $?"; } | sed -nE 's/^(UNREF|BAD.DUP) ([A-Z]+) I=([0-9]+).*/\2 \3/p; /^status [2-9]/p' | while read -r kind i; do
         case $kind in
             status) complain "unnamed: the check ends with $i, so it names none" || : ;;
-            FILE) icat -f ufs1 "$image" "$i" | dd of=unnamed.d/"$i" conv=sparse status=none ;;
+            FILE) copy_inode "$image" "$i" unnamed.d/"$i" || : ;;
             *) recovered "$image" unnamed.d/"$i".d "$i" || : ;;
         esac
     done
@@ -505,7 +560,16 @@ directories() (
 )
 
 new_root() (
-    case $(ffs_find owner "$1" copy.img) in free | "no map"*) ;; *) complain "new_root: fragment $1 isn't free: see ffs_find owner $1 copy.img"; exit 1 ;; esac
+    case $(ffs_find owner "$1" copy.img) in
+        free | "no map"*) ;;
+        lost)
+            if [ "$(dd if=copy.img bs="$fsize" skip="$1" count=1 status=none | tr -d '\0' | wc -c)" -gt 0 ]; then
+                complain "new_root: fragment $1 is lost, and has more than zeros"
+                exit 1
+            fi
+            ;;
+        *) complain "new_root: fragment $1 isn't free: see ffs_find owner $1 copy.img"; exit 1 ;;
+    esac
     d=$(($1 * fsize)) && dd if=/dev/zero of=further.img bs="$fsize" seek="$1" count=1 conv=notrunc,nocreat status=none &&
         put $d 4 2 && put $d+4 2 12 && put $d+6 1 4 && put $d+7 1 1 && put $d+8 1 0x2e &&
         put $d+12 4 2 && put $d+16 2 500 && put $d+18 1 4 && put $d+19 1 2 && put $d+20 2 0x2e2e && directory 2 "$1" 512

@@ -3,9 +3,9 @@ import os
 import random
 
 from .. import sources
-from ..case import NotHere, Wrong, entries_of, fragments_of, number_of, owners_of
+from ..case import NotHere, Wrong, entries_of, fragments_of, number_of, owners_of, places_of
 from .all import damage
-from .inodes import first_lost, free_block, mend, mend_free, mend_shared, words_of
+from .inodes import first_lost, free_block, mend, mend_free, mend_shared, put_lost, words_of
 from .names import entries_of_inode, place_of
 
 # How many of the inodes that are left are copied, of those that have no name.
@@ -732,3 +732,107 @@ def root_bad(case):
     case.at_stake(*case.tree)
     case.report("DUPS/BAD IN ROOT INODE")
     mend(case, 2, "address", k=0, f=first_lost(case))
+
+
+def exchange_addresses(case, directory, k, path, j):
+    """Exchanges an address of a directory with one of a file."""
+    volume = case.volume
+    i, other = volume.find(directory), volume.find(path)
+    a, b = volume.inode(i)[f"direct{k}"], volume.inode(other)[f"direct{j}"]
+    volume.put_inode(i, **{f"direct{k}": b})
+    volume.put_inode(other, **{f"direct{j}": a})
+    return i
+
+
+def exchange_back(case, i, name):
+    """Finds a name that has no file's directory, of an unreferenced file: it lies in a file, whose address is put in the place of the
+    directory's."""
+    entry = next(entry for entry in entries_of(case.run("find-name", i=name)))
+    found = case.run("owners", f=entry.byte // case.volume.layout.fsize).split()
+    other, block = int(found[1]), int(found[3])
+    addresses = fragments_of(case.run("inode", i=i))
+    lies = fragments_of(case.run("inode", i=other))[block]
+    for k in addresses:
+        case.run("further place address", i=i, k=k, f=lies)
+        if case.run("place address check", i=other, k=block, f=addresses[k]).status == 0:
+            return
+    raise Wrong("no address of the directory fits")
+
+
+@damage("the addresses of a directory and of a file were exchanged")
+def file_address_exchanged(case):
+    exchange_addresses(case, "mail/in", 0, "mail/out/three", 0)
+    case.at_stake("mail/in", "mail/in/one", "mail/in/two", "mail/out/three")
+    report = case.report("DIRECTORY CORRUPTED", "UNREF")
+    exchange_back(case, report.first("DIRECTORY CORRUPTED")["inode"], report.first("UNREF")["inode"])
+
+
+@damage("the second address of a directory and one of a file were exchanged")
+def file_second_address_exchanged(case):
+    case.in_one_order()
+    exchange_addresses(case, "docs/names", 1, "docs/report", 2)
+    names_at_stake(case)
+    case.at_stake("docs/report", "mail/report_too")
+    report = case.report("DIRECTORY CORRUPTED", "UNREF")
+    exchange_back(case, report.first("DIRECTORY CORRUPTED")["inode"], report.first("UNREF")["inode"])
+
+
+@damage("a directory became a file, and the type in its entry too")
+def became_file_wholly(case):
+    volume = case.volume
+    volume.put_inode(volume.find("mail/in"), mode=0o100755)
+    volume.put(volume.entry("mail/in") + 6, 1, 8)
+    case.at_stake("mail/in", "mail/in/one", "mail/in/two")
+    name = case.report("UNREF").first("UNREF")["inode"]
+    entry = entries_of(case.run("find-name", i=name))[0]
+    i = owners_of(case.run("owners", f=entry.byte // volume.layout.fsize))[0]
+    path = case.run("names-of", i=i).strip()
+    if case.run("further place mode type check", i=i, mode="40755", e=place_of(case, path), type=4).status:
+        raise Wrong("it isn't consistent")
+
+
+@damage("all fields of a directory's inode but its addresses became zeros")
+def addresses_alone(case):
+    volume = case.volume
+    i = volume.find("docs/pages")
+    volume.put_inode(i, mode=0, nlink=0, size=0, blocks=0)
+    case.at_stake(*[path for path in case.tree if path.startswith("docs/pages")])
+    i = case.report("PARTIALLY ALLOCATED INODE").first("PARTIALLY ALLOCATED INODE")["inode"]
+    case.run("further clear keep", i=i)
+    if case.run("further directories check").status not in (0, 1):
+        raise Wrong("it doesn't end")
+    case.run("keep names")
+
+
+@damage("a file's address became that of a directory's block, and that of another directory a file's")
+def shared_both_ways(case):
+    volume = case.volume
+    volume.put_inode(volume.find("docs/report"), direct1=volume.inode(volume.find("docs/names"))["direct0"])
+    volume.put_inode(volume.find("mail/in"), direct0=volume.inode(volume.find("docs/letter"))["direct0"])
+    names_at_stake(case)
+    case.at_stake("docs/report", "mail/in", "docs/letter")
+    case.report("DUP", "DIRECTORY CORRUPTED")
+    dot = next(entry for entry in entries_of(case.run("lost-names")) if entry.name == ".")
+    case.run("further place address keep", i=dot.number, k=0, f=dot.byte // volume.layout.fsize)
+    f = case.check_again("DUP").first("DUP")["fragment"]
+    for i, k, _ in places_of(case.run("owners", f=f)):
+        put_lost(case, i, k)
+
+
+@damage("the root's inode and block became zeros, and no fragment is free")
+def full_volume(case):
+    volume, layout = case.volume, case.volume.layout
+    root = volume.blocks(2)[0]
+    for f in range(layout.size):
+        if not layout.is_reserved(f):
+            place, bit = volume.mark(f)
+            volume.image[place] &= ~(1 << bit)
+    volume.zero(root * layout.fsize, layout.fsize)
+    volume.zero(layout.inode_place(2), 128)
+    case.at_stake("docs/letter", "docs/report", "mail/in/one", "big/film", name=False)
+    case.report("ROOT INODE UNALLOCATED")
+    ranges = [range(int(line.split()[0]), int(line.split()[1]) + 1) for line in case.run("lost").splitlines()]
+    full = next(f for f in range(layout.size) if not any(f in it for it in ranges))
+    case.refuses("further new-root", f=full)
+    case.run("further new-root keep", f=root)
+    case.run("unnamed")

@@ -473,8 +473,11 @@ def word_bad_for_good(case):
     bad = case.report("BAD").first("BAD")
     i = bad["inode"]
     case.run("bytes", i=i)
-    if case.has_bytes("big/film"):
-        raise Wrong("the recipe bytes passes a BAD address")
+    if not case.has_bytes("big/film"):
+        raise Wrong("the recipe bytes ends at a BAD address")
+    case.run("all")
+    if case.trees[-1].get("big/film") != case.tree["big/film"]:
+        raise Wrong("the recipe all ends at a BAD address")
     case.run("further word check", b=fragments_of(case.run("inode", i=i))[12], k=words_of(case, i, 12).index(bad["fragment"]), f=0)
     case.run("keep bytes", i=i)
     case.run("all")
@@ -1078,3 +1081,118 @@ def moved(case):
     for k in range(i, first + count - m):
         case.run("bytes", i=k + m)
     case.run("names all")
+
+
+@damage("the link counts of files became less than 0")
+def links_below_zero(case):
+    case.volume.put_inode(case.volume.find("docs/letter"), nlink=0x8000)
+    case.volume.put_inode(case.volume.find("docs/report"), nlink=0xFFFF)
+    case.at_stake("docs/letter", "docs/report", "mail/report_too")
+    for message in case.report("LINK COUNT").of("LINK COUNT"):
+        status = mend(case, message["inode"], "links", links=message["right_count"]).status
+        case.run("keep")
+    if status:
+        raise Wrong("it isn't consistent")
+
+
+def shifted(case, by):
+    """Moves the address of the letter by some fragments, over a neighbour's, and puts what is lost at its end, and at its begin."""
+    i = case.volume.find("docs/letter")
+    case.volume.put_inode(i, direct0=case.volume.blocks(i)[0] + by)
+    case.at_stake("docs/letter")
+    case.report("DUP")
+    count = -(-case.volume.inode(i)["size"] // case.volume.layout.fsize)
+    first = first_lost(case)
+    last = int(case.run("lost").split()[1])
+    if last - first + 1 != abs(by):
+        raise Wrong(f"lost are {first} to {last}")
+    found = [mend(case, i, "address", k=0, f=f).status for f in (first, last - count + 1)]
+    if sorted(found) != [0, 1]:
+        raise Wrong(f"the checks end with {found}")
+
+
+@damage("a file's address became one fragment less")
+def address_less(case):
+    shifted(case, -1)
+
+
+@damage("a file's address became one fragment more")
+def address_more(case):
+    shifted(case, 1)
+
+
+@damage("all fields of an inode but its addresses became zeros")
+def addresses_alone(case):
+    case.volume.put_inode(case.volume.find("docs/report"), mode=0, nlink=0, size=0, blocks=0)
+    case.at_stake("docs/report", "mail/report_too")
+    i = case.report("PARTIALLY ALLOCATED INODE", "UNALLOCATED").first("PARTIALLY ALLOCATED INODE")["inode"]
+    size = len(fragments_of(case.run("inode", i=i))) * case.volume.layout.bsize
+    while True:
+        found = mend(case, i, "mode size", mode="100644", size=size)
+        case.run("further place mode size keep", i=i, mode="100644", size=size)
+        if not found.of("DUP") and not case.run("marked-free"):
+            break
+        size -= case.volume.layout.fsize
+    case.run("bytes", i=i)
+
+
+@damage("a sector of an indirect block became zeros")
+def words_zeroed(case):
+    case.volume.zero(indirect_place(case), 256)
+    case.at_stake("big/film")
+    i = case.report("INCORRECT BLOCK COUNT").first("INCORRECT BLOCK COUNT")["inode"]
+    case.run("joined further refill check", b=fragments_of(case.run("inode", i=i))[12])
+
+
+@damage("two sectors of inodes were exchanged")
+def sectors_exchanged(case):
+    volume, count = case.volume, 4
+    at = volume.layout.inode_place(0)
+    first, second = slice(at + 512, at + 1024), slice(at + 1536, at + 2048)
+    volume.image[first], volume.image[second] = volume.image[second], volume.image[first]
+    case.at_stake(*case.tree)
+    case.report("BAD TYPE VALUE", "BAD INODE NUMBER FOR '.'")
+    for i in range(count, 2 * count):
+        case.run("further exchange keep", i=i, j=i + 2 * count)
+    if case.run("further check"):
+        raise Wrong("it isn't consistent")
+
+
+@damage("a block of inodes was overwritten by an indirect block")
+def inodes_overwritten_by_words(case):
+    volume, at = case.volume, indirect_place(case)
+    place, bsize = volume.layout.inode_place(0), volume.layout.bsize
+    volume.image[place:place + bsize] = volume.image[at:at + bsize]
+    folders = [path for path, data in case.tree.items() if data == "directory"]
+    case.at_stake(*folders, data=False)
+    garbage = case.report("PARTIALLY ALLOCATED INODE", "ROOT INODE UNALLOCATED").of("PARTIALLY ALLOCATED INODE")
+    for message in garbage:
+        case.run("further clear keep", i=message["inode"])
+    case.run("further directories check")
+    case.run("keep names")
+
+
+@damage("a sound file of more than 4 GB has a hole, and a triple indirect block: a large file")
+def triple_hole(case):
+    volume, n = case.volume, case.volume.layout.bsize // 4
+    layout, film = volume.layout, volume.find("big/film")
+    if "big/archive" not in case.tree:
+        raise NotHere
+    # The film's last block becomes the triple indirect one
+    count = len(volume.blocks(film)) - 13
+    t = volume.number(indirect_place(case) + 4 * count, 4)
+    volume.put(indirect_place(case) + 4 * count, 4, 0)
+    volume.put_inode(film, size=(12 + count) * layout.bsize, blocks=volume.inode(film)["blocks"] - layout.bsize // 512)
+    i, data = volume.find("big/archive"), case.tree["big/archive"]
+    inode, held, place = volume.inode(i), (12 + n) * layout.bsize, (12 + n + n * n) * layout.bsize
+    volume.zero(t * layout.fsize, layout.bsize)
+    volume.put(t * layout.fsize, 4, inode["double"])
+    volume.put_inode(i, double=0, triple=t, size=place + len(data) - held, blocks=inode["blocks"] + layout.bsize // 512)
+    if case.report():
+        raise Wrong("it isn't sound")
+    case.run("bytes", i=i)
+    with open(f"{case.place}/saved.{i}", "rb") as it:
+        first = it.read(held)
+        it.seek(place)
+        if first + it.read() != data or os.stat(it.name).st_blocks > 1 << 14:
+            raise Wrong("it isn't the file, or its hole takes place")

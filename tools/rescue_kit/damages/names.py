@@ -491,3 +491,43 @@ def chunk_zeroed(case):
     report = case.report("DIRECTORY CORRUPTED", "UNREF")
     for message in report.of("UNREF"):
         case.run("bytes", i=message["inode"])
+
+
+@damage("the number of a directory's entry became 0")
+def directory_number_zero(case):
+    i = case.volume.find("mail/in")
+    set_number(case, "mail/in", 0)
+    case.at_stake("mail/in", "mail/in/one", "mail/in/two")
+    case.report("UNREF")
+    case.run("deleted")
+    for entry in entries_in(case, "mail"):
+        if entry.number == 0 and mend_number(case, f"mail/{entry.name}", i).status:
+            raise Wrong("it isn't consistent")
+
+
+@damage("the numbers of two directories' entries were exchanged")
+def directory_numbers_exchanged(case):
+    volume, paths = case.volume, ("mail/in", "docs/pages")
+    i, j = (volume.find(path) for path in paths)
+    set_number(case, paths[0], j)
+    set_number(case, paths[1], i)
+    case.at_stake(*[path for path in case.tree if path.startswith(paths)])
+    first, second = case.report("BAD INODE NUMBER FOR '..'").of("BAD INODE NUMBER FOR '..'")
+    case.run("further number keep", e=place_of(case, first["path"]), i=second["inode"])
+    mend_number(case, second["path"], first["inode"])
+
+
+@damage("an entry's type became 0, and its number none of the volume's")
+def type_and_number(case):
+    case.in_one_order()
+    case.volume.put(case.volume.entry("docs/letter") + 6, 1, 0)
+    set_number(case, "docs/letter", 99999)
+    case.at_stake("docs/letter")
+    report = case.report("I OUT OF RANGE", "UNREF")
+    i = report.first("UNREF")["inode"]
+    case.run("bytes", i=i)
+    # Its entry isn't shown: it begins where the one before it ends
+    shown = sorted(entries_in(case, "docs"))
+    ends = [entry.byte + entry.length for entry in shown if (entry.byte + entry.length) % 512 and entry.byte + entry.length not in {one.byte for one in shown}]
+    if not any(case.run("further number type check", e=e, i=i, type=8).status == 0 for e in ends):
+        raise Wrong("it isn't consistent")

@@ -464,3 +464,41 @@ def older(case):
     if case.run("copies"):
         raise Wrong("a copy is accepted")
     case.run("names all")
+
+
+@damage("the image begins within a sector of a larger file")
+def within_sector(case):
+    right = bytes(case.volume.image)
+    all_at_stake(case)
+    case.volume.image[:] = b"a header " * 11 + right
+    case.report("BAD SUPER BLOCK")
+    case.run("further within check")
+    if case.bytes_of("further.img") != right:
+        raise Wrong("what was cut out isn't the volume")
+
+
+@damage("the image is a partition of a whole disk, and its superblock and first copies were overwritten")
+def partition_groups_lost(case):
+    volume = case.volume
+    right = bytes(volume.image)
+    count = 2
+    lost_bytes = volume.layout.copy_place(count)
+    case.volume.image[:] = bytes(START * SECTOR) + b"text" * (lost_bytes // 4) + right[lost_bytes:] + bytes(START * SECTOR)
+    case.report("BAD SUPER BLOCK")
+    lines = [line.split() for line in case.run("copies").splitlines()]
+    first, second = int(lines[0][0]), int(lines[1][0])
+    sectors = int(lines[0][3]) * int(lines[0][2].split("/")[1]) // SECTOR
+    missing = -(-sectors // (second - first)) - len(lines)
+    if missing != count or first - 32 - missing * (second - first) != START:
+        raise Wrong(f"{missing} lines are missing")
+
+
+@damage("the superblock's limit for the text of a link in its inode became 0")
+def link_limit(case):
+    volume = case.volume
+    volume.put_superblock("maxsymlinklen", 0)
+    for c in range(volume.layout.ncg):
+        volume.put_superblock("maxsymlinklen", 0, copy=c)
+    all_at_stake(case)
+    if case.report("UNKNOWN FILE TYPE", "INCORRECT BLOCK COUNT") and case.run("further link-limit check").status:
+        raise Wrong("it isn't consistent")
