@@ -1,6 +1,6 @@
 -- What the maps of groups say wrongly: of one group by what the program has of its map, and of all groups.
 use Rattle.std.proofs.Common.{◌≡◌, ◌∙◌, ℕ, ◌+◌, ◌-◌, ◌<◌, ◌≤◌, Bool, true, false, List, [], ◌++◌, arith, refl, sym}
-use Rattle.std.{proofs.Common.subst, specs.List.{flat_map, range_with_len}}
+use Rattle.std.proofs.Common.{subst}
 use Rattle.ffs_image.specs.{Device.Device, Known.ForBytes}
 use Rattle.ffs_volume.specs.{declared.Layout.Layout, Disk.Areas.cgbase, Groups.Records.{bit_at, fragment_map_place}}
 use Rattle.ffs_volume.{specs.Groups.Records.{group_block, group_size, has_bits, same_bit}, proofs.Below.all_below-at}
@@ -8,7 +8,7 @@ use Rattle.ffs_volume.specs.{Find.Lost.{has_map, lost_lines, stretch_lines}, Blo
 use Rattle.ffs_groups.specs.Free.{free_in}
 use Rattle.ffs_maps.specs.Bits.{bits_of}
 use Rattle.ffs_workspace.specs.declared.workspace.Workspace.{Workspace}
-use Rattle.ffs_finding.specs.{Claims.WithBlocks, LostMaps.{is_wrong_by, lines_of_group, lines_of_groups, word_of}}
+use Rattle.ffs_finding.specs.{Claims.WithBlocks, LostMaps.{from_group, is_wrong_by, lines_of_group, lines_of_groups, word_of}}
 use Rattle.ffs_finding.{specs.declared.lost.Wrong.{Wrong, TheVariants.{Lost, MarkedFree}}, proofs.Ranges.{next, none}}
 
 pub with_map : (how : Wrong) (v : Layout) (used : List Bool) (size base end place c : ℕ) (block : List ℕ) →
@@ -47,26 +47,19 @@ right_map how v used size place c block some at is right =
     wrong_none how (free f) (bit_at block place (f - base))
     (subst (λ (k : ℕ). same_bit (bit_at block place (f - base)) (free k) ≡ true) back same))
 
--- the lines of group c of an image
-abbrev pub group_lines : Wrong → (v : Layout) (free : ℕ → Bool) (image : List ℕ) (c : ℕ) → List (List ℕ)
-group_lines how v free image c = lines_of_group how v free c (group_block v image c)
-
 module _ (how : Wrong) (v : Layout) (free : ℕ → Bool) where
-  -- the lines of the groups from c on
-  abbrev pub from_group : (c : ℕ) (image : List ℕ) → List (List ℕ)
-  from_group c image = flat_map (group_lines how v free image) (range_with_len c (v.ncg - c))
-
-  pub groups_begin : (image : List ℕ) → from_group 0 image ≡ lines_of_groups how v free image
+  pub groups_begin : (image : List ℕ) → from_group how v free 0 image ≡ lines_of_groups how v free image
   groups_begin image = let all : v.ncg - 0 ≡ v.ncg = omega arith in rw all refl
 
   -- the lines of one group, and of those after it
   pub groups_next : (image block : List ℕ) (c : ℕ) → c < v.ncg → block ≡ group_block v image c →
-      from_group c image ≡ lines_of_group how v free c block ++ from_group (c + 1) image
+      from_group how v free c image ≡ lines_of_group how v free c block ++ from_group how v free (c + 1) image
   groups_next image block c low is =
       let left : v.ncg - c - 1 ≡ v.ncg - (c + 1) = omega arith in
-      rw (is, sym left) (next (group_lines how v free image) c (v.ncg - c) (omega (arith, low)))
+      rw (is, sym left)
+      (next (λ g. lines_of_group how v free g (group_block v image g)) c (v.ncg - c) (omega (arith, low)))
 
-  pub groups_end : (image : List ℕ) (c : ℕ) → v.ncg ≤ c → from_group c image ≡ []
+  pub groups_end : (image : List ℕ) (c : ℕ) → v.ncg ≤ c → from_group how v free c image ≡ []
   groups_end image c past = let none : v.ncg - c ≡ 0 = omega arith in rw none refl
 
 -- the lines of an image are those of lost fragments, and then those of fragments that are marked as free

@@ -1,5 +1,5 @@
 -- The lines of inodes, one after another.
-use Rattle.std.proofs.Common.{◌≡◌, ◌∙◌, ℕ, ◌+◌, ◌-◌, ◌<◌, ◌≤◌, false, List, [], ◌++◌, arith, refl}
+use Rattle.std.proofs.Common.{◌≡◌, ◌∙◌, ℕ, ◌+◌, ◌-◌, ◌<◌, ◌≤◌, Bool, false, List, [], ◌++◌, arith, refl}
 use Rattle.std.{specs.List.{flat_map, range_with_len}}
 use Rattle.ffs_volume.proofs.{CutLaws.cut_is, OwnerLaws.before_next, ReplayLaws.replay_is_runs}
 use Rattle.ffs_volume.specs.Blocks.{Claims.{at_next_inode, after_steps}, KeptSteps.claims_before, Inodes.inode_of}
@@ -13,7 +13,9 @@ use Rattle.ffs_volume.specs.Encodings.Notes.{cut_in, note_at}
 use Rattle.ffs_workspace.proofs.{KindLaws.reports_at, NoteLaws.cut_is_noted}
 use Rattle.ffs_claims.proofs.Numbers.{is_inside}
 use Rattle.ffs_walk.specs.SeenRuns.{seen_runs}
-use Rattle.ffs_finding.{specs.Keepers.lines_of_runs, proofs.{Replayed.inode_replay}}
+use Rattle.ffs_finding.{specs.Keepers.{is_fixed_fragment, lines_of_runs, owner_reads}, proofs.Replayed.inode_replay}
+use Rattle.ffs_volume.specs.Report.Reads.{sweep_reads}
+use Rattle.std.{proofs.lemmas.Bool.Decides.nat_tests, specs.Prelude.if◌then◌else◌}
 
 -- the lines of the inodes from n on
 unfoldable pub keepers_from : (v : Layout) (b : List ℕ) (f n : ℕ) → List (List ℕ)
@@ -51,6 +53,11 @@ pub inode_runs : (v : Layout) (b : List ℕ) (n note : ℕ) → IsAcceptedLayout
     + replayed_runs v (cut_in note) fresh_replay (steps_of v (inode_of v b n) b)
 unfolding owner_of
 inode_runs v b n note g low high e = grind (arith, before_next, cut_ends, replay_is_runs)
+
+-- a fragment takes no more reads than the layout allows it
+pub owner_reads_most : (v : Layout) (used : List Bool) (f : ℕ) →
+    owner_reads v used f ≤ (if is_fixed_fragment v f then 0 else sweep_reads v)
+owner_reads_most v used f = grind (arith, nat_tests)
 
 -- ---- an inode that isn't allocated
 not_walked : (c : Class) → is_allocated c ≡ false → is_file_or_dir c ≡ false

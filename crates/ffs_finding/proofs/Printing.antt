@@ -1,6 +1,6 @@
 -- How lines are printed, one after another.
 use Rattle.std.proofs.Common.{◌≡◌, refl, ◌∙◌, sym, ℕ, List, [], ◌∷◌, ◌++◌, append_assoc, append-nil, Result, Ok, Err}
-use Rattle.std.{proofs.Common.{arith, Bool, true}, specs.{List.concat, Prelude.◌||◌}}
+use Rattle.std.{proofs.Common.{ap, arith, Bool, true}, specs.{List.concat, Prelude.◌||◌}}
 use Rattle.ffs_report.specs.{Sink.{Sink, Took, BrokeOff}, declared.fault.RunFault.{RunFault, TheVariants.{Read, Out}}}
 use Rattle.ffs_report.proofs.Sinks.{took_nil, took_then, broke_off_after}
 use Rattle.ffs_image.specs.Known.{ForBytes}
@@ -84,6 +84,18 @@ part_right : (knows : List ℕ → Type 0) (rest this rest' all more : List ℕ 
     ForBytes knows (λ bytes. ys ++ more bytes ≡ this bytes) →
     ForBytes knows (λ bytes. (xs ++ ys) ++ (more bytes ++ rest' bytes) ≡ all bytes)
 part_right knows rest this rest' all more xs ys p e q = grind (arith, append_assoc)
+
+-- some of a part was printed, and `more` of it is to come
+pub some_of_part : (knows : List ℕ → Type 0) (rest this more rest' left all : List ℕ → List (List ℕ)) (a b c : Sink) →
+    PrintedOf knows rest all a b → ForBytes knows (λ bytes. rest bytes ≡ this bytes ++ rest' bytes) →
+    ForBytes knows (λ bytes. left bytes ≡ more bytes ++ rest' bytes) → PrintedOf knows more this b c →
+    PrintedOf knows left all a c
+some_of_part knows rest this more rest' left all a b c p e is q = record {
+  lines = p.lines ++ q.lines;
+  right = λ bytes k. ap (λ ls. (p.lines ++ q.lines) ++ ls) (is bytes k)
+      ∙ part_right knows rest this rest' all more p.lines q.lines p.right e q.right bytes k;
+  took = rw (concat-append p.lines q.lines) (took_then a b c (concat p.lines) (concat q.lines) p.took q.took);
+}
 
 -- a fault came in a part
 pub part_fault : (T E : Type 0) (knows : List ℕ → Type 0) (rest this rest' all : List ℕ → List (List ℕ)) (a b c : Sink)

@@ -11,8 +11,9 @@ use Rattle.ffs_finding.specs.declared.find.FindFault.{FindFault, TheVariants.{Re
 use Rattle.ffs_finding.specs.declared.request.Target.{Target, TheVariants.{Inode, Fields, Lost, Owner}}
 use Rattle.ffs_finding.specs.{declared.request.Command.TheVariants.InVolume, Headline.{AnswersCommand, AnswersWith}}
 use Rattle.ffs_finding.specs.Headline.{FindsTarget, GroundsOf, IsAcceptedIn, IsGranted, IsReadFor, IsRefusedBy}
-use Rattle.ffs_finding.specs.Headline.{IsSectorFor, TakesForTarget, TakesMemory, PrintedAll, lines_by, target_lines}
-use Rattle.ffs_finding.proofs.Printing.{first_knowing, printed_knowing}
+use Rattle.ffs_finding.specs.Headline.{IsReadForTarget, TakesForTarget, TakesMemory, PrintedAll, lines_by, target_lines}
+use Rattle.ffs_finding.specs.Fields.{WithSuper}
+use Rattle.ffs_finding.proofs.{LostParts.fails_later, Printing.{first_knowing, printed_knowing}}
 
 -- memory was refused, where the answer says so
 refused : (target : Target) (v : Layout) (held held' : Account) → TakesForTarget target v held held' (Err NoMemory) →
@@ -41,18 +42,32 @@ knowing_more are_defects d reads reads' a m (Err (Failed (Out fault))) more p =
     record { image = p.image; text = first_knowing more p.text }
 knowing_more are_defects d reads reads' a m (Err NoMemory) more p = p
 
+-- where a read failed, by what is known once the superblock is accepted
+read_for : (target : Target) (sector : Option ℕ) (s : Superblock) (knows knows' : List ℕ → Type 0) (begun begun' at : ℕ)
+    (a : Sink) (m : Moment) → ForBytes knows' knows → begun ≤ begun' →
+    IsReadForTarget target sector s knows begun a m at → IsReadForTarget target sector s knows' begun' a m at
+read_for (Inode number) sector s knows knows' begun begun' at a m more few p = p
+read_for Fields sector s knows knows' begun begun' at a m more few p = p
+read_for Lost sector s knows knows' begun begun' at a m more few (inl none) = inl none
+read_for Lost sector s knows knows' begun begun' at a m more few (inr p) =
+    inr (fails_later knows knows' s.layout _ _ a m at more (omega (arith, few)) p)
+read_for (Owner fragment) sector s knows knows' begun begun' at a m more few p = p
+
 module _ (target : Target) (sector : Option ℕ) (s : Superblock) (d : Device)
     (accepted : ForContents d.contents (λ b. outcome b sector ≡ Ok s)) where
-  grounds : (reads : ℕ) (a : Sink) (m : Moment) (held held' : Account) (r : Result Bool FindFault) →
-      GroundsOf r ⊤ (λ fault. ⊥) (IsSectorFor target sector s) ⊤ → TakesForTarget target s.layout held held' r →
+  grounds : (reads between : ℕ) (a : Sink) (m : Moment) (held held' : Account) (r : Result Bool FindFault) →
+      between ≤ reads + opening_reads sector →
+      GroundsOf r ⊤ (λ fault. ⊥) (IsReadForTarget target sector s (WithSuper d sector s) between a m) ⊤ →
+      TakesForTarget target s.layout held held' r →
       GroundsOf r (ForContents d.contents (IsAcceptedIn (InVolume target sector)))
       (IsRefusedBy (InVolume target sector) d m.image)
       (IsReadFor (InVolume target sector) (record { image = d; reads = reads; out = a }) m) (RefusedOneMore held held')
-  grounds reads a m held held' (Ok defect) p t = λ b k. ap is_ok (accepted b k)
-  grounds reads a m held held' (Err (Refused fault)) p t = absurd p
-  grounds reads a m held held' (Err (Failed (Read fault))) p t = λ b k. rw (accepted b k) p
-  grounds reads a m held held' (Err (Failed (Out fault))) p t = tt
-  grounds reads a m held held' (Err NoMemory) p t = refused target s.layout held held' t
+  grounds reads between a m held held' (Ok defect) opened p t = λ b k. ap is_ok (accepted b k)
+  grounds reads between a m held held' (Err (Refused fault)) opened p t = absurd p
+  grounds reads between a m held held' (Err (Failed (Read fault))) opened p t = λ b k. rw (accepted b k)
+      (read_for target sector s _ _ _ _ fault.sector a m (λ x here. (here, accepted x here)) opened p)
+  grounds reads between a m held held' (Err (Failed (Out fault))) opened p t = tt
+  grounds reads between a m held held' (Err NoMemory) opened p t = refused target s.layout held held' t
 
 asked : (bytes : ℕ) (held held' : Account) (r : Result Bool FindFault) → IsGranted bytes held held' r →
     AsksMemory held held' bytes
@@ -81,7 +96,7 @@ pub answered : (target : Target) (sector : Option ℕ) (s : Superblock) (d : Dev
 answered target sector s d before between a m held held' r accepted sound inside opened p t = record {
   answer = knowing_more _ d between before a m r
       (λ b k. ((k, accepted b k), sym (ap (lines_by (target_lines target sector b)) (accepted b k)))) p.answer;
-  grounds = grounds target sector s d accepted before a m held held' r p.grounds t;
+  grounds = grounds target sector s d accepted before between a m held held' r opened p.grounds t;
   memory = takes target sector s d held held' r accepted sound inside t;
   reads = inr (record {
     found = s;

@@ -18,7 +18,7 @@ use Rattle.ffs_finding.specs.declared.request.Target.{Target, TheVariants.{Inode
 use Rattle.ffs_finding.specs.declared.request.Command.{Command, TheVariants.{Copies, InVolume}}
 use Rattle.ffs_finding.specs.declared.find.FindFault.{FindFault, TheVariants.{Refused, Failed, NoMemory}}
 use Rattle.ffs_finding.specs.{Outcome.{Finds, PrintedOf, any_line}, Fields.WithSuper, Copies.FailsBeforeCopy}
-use Rattle.ffs_finding.specs.Copies.{ReadsCopies, window_bytes}
+use Rattle.ffs_finding.specs.{Copies.{ReadsCopies, window_bytes}, Keepers.is_fixed_fragment, LostMaps.FailsForLost}
 use Rattle.ffs_workspace.specs.Ready.{workspace_requests}
 
 -- what is printed of a target in an image with this accepted superblock
@@ -86,20 +86,24 @@ GroundsOf (Err (Failed (Out fault))) accepted refused unread no_memory = ⊤
 GroundsOf (Err NoMemory) accepted refused unread no_memory = no_memory
 
 -- how often an image is read for a target after the superblock, in a volume of this layout: `lost` for phase 1 and
--- the block of each group twice, `owner` for phase 1 and a sweep over all inodes
+-- the block of each group twice, `owner` for phase 1 and a sweep over all inodes; that isn't made where the layout
+-- says what the fragment is
 abbrev pub target_reads : Target → Layout → ℕ
 target_reads (Inode number) v = 1
 target_reads Fields v = 1
 target_reads Lost v = scan_reads v + 2 * v.ncg
-target_reads (Owner fragment) v = scan_reads v + sweep_reads v
+target_reads (Owner fragment) v = scan_reads v + (if is_fixed_fragment v fragment then 0 else sweep_reads v)
 
--- the sector at which a read for a target may fail: that of the inode, or of the superblock. `lost` and `owner` read
+-- the sector at which a read for a target failed, where `begun` reads were made at most before it: that of the inode,
+-- or of the superblock. `lost` fails in phase 1, which prints nothing, or at the block of a group. Phase 1 and `owner` read
 -- much, and nothing is said of where
-abbrev pub IsSectorFor : Target → (sector : Option ℕ) → Superblock → (at : ℕ) → Type 0
-IsSectorFor (Inode number) sector s at = at ≡ inode_place s.layout number / DEV_BSIZE
-IsSectorFor Fields sector s at = at ≡ super_sector sector
-IsSectorFor Lost sector s at = ⊤
-IsSectorFor (Owner fragment) sector s at = ⊤
+abbrev pub IsReadForTarget : Target → (sector : Option ℕ) → Superblock → (knows : List ℕ → Type 0) → (begun : ℕ)
+    → (old : Sink) → (new : Moment) → (at : ℕ) → Type 0
+IsReadForTarget (Inode number) sector s knows begun old new at = at ≡ inode_place s.layout number / DEV_BSIZE
+IsReadForTarget Fields sector s knows begun old new at = at ≡ super_sector sector
+IsReadForTarget Lost sector s knows begun old new at =
+    (new.out ≡ old) ⊎ FailsForLost knows s.layout (begun + scan_reads s.layout) old new at
+IsReadForTarget (Owner fragment) sector s knows begun old new at = ⊤
 
 -- the line of a fault was printed, or the output failed in it, and the status is 8
 abbrev pub EndsByLine : (old new : Sink) → List ℕ → ℕ → Type 0
@@ -129,7 +133,8 @@ IsRefusedBy (InVolume target sector) d d' fault =
 abbrev pub IsReadFor : Command → (old new : Moment) → (at : ℕ) → Type 0
 IsReadFor Copies old new at = FailsBeforeCopy (IsContents old.image.contents) old.out new.out at
 IsReadFor (InVolume target sector) old new at = ForContents old.image.contents
-    (λ b. IfOk (outcome b sector) (λ s. IsSectorFor target sector s at))
+    (λ b. IfOk (outcome b sector) (λ s. IsReadForTarget target sector s (IsContents old.image.contents)
+    (old.reads + opening_reads sector) old.out new at))
 
 -- what a command takes of the memory: `copies` a window, `lost` and `owner` the workspace of a check
 abbrev pub TakesMemory : Command → Device → (before after : Account) → Type 0
@@ -190,7 +195,8 @@ pub record FindsTarget (target : Target) (sector : Option ℕ) (s : Superblock) 
     (result : Result Bool FindFault) : Type 0 where
   pub answer : AnswersWith (lines_are_defects target) (WithSuper old.image sector s) (λ b. target_lines target sector b s)
       old new result
-  pub grounds : GroundsOf result ⊤ (λ fault. ⊥) (IsSectorFor target sector s) ⊤
+  pub grounds : GroundsOf result ⊤ (λ fault. ⊥) (IsReadForTarget target sector s (WithSuper old.image sector s) old.reads
+      old.out new) ⊤
   pub reads : new.reads ≤ old.reads + target_reads target s.layout
 
 -- bytes of the memory were granted, or a request for them was refused, as the answer says

@@ -1,11 +1,11 @@
 -- What the program knows of the inodes that keep an offer of a fragment, and what its parts leave.
-use Rattle.std.specs.Prelude.{◌≡◌, ◌+◌, ◌<◌, ◌≤◌, ℕ, Bool, ◌&&◌, List, [], ◌∷◌, ◌++◌, length, if◌then◌else◌, nat_le}
-use Rattle.std.specs.Prelude.{nat_lt, slice_index, vec_len, Result}
+use Rattle.std.specs.Prelude.{◌≡◌, ◌+◌, ◌<◌, ◌≤◌, ℕ, Bool, ◌&&◌, ◌||◌, List, [], ◌∷◌, ◌++◌, length, if◌then◌else◌}
+use Rattle.std.specs.Prelude.{nat_le, nat_lt, slice_index, vec_len, Result}
 use Rattle.ffs_volume.specs.{declared.{Inode.Inode, Layout.Layout, Step.Step}, Blocks.Inodes.{inode_of, inodes_of}}
 use Rattle.ffs_volume.specs.{Blocks.Steps.steps_of, Encodings.{Replay.fresh_replay, ReplayCounts.replayed_runs}}
 use Rattle.ffs_volume.specs.{Report.Whole.run_count, Groups.Records.group_block, Find.Owner.group_of_fragment}
 use Rattle.ffs_volume.specs.{Find.Owner.{keeper_lines, keeper_text, map_text}, Encodings.Notes.cut_in}
-use Rattle.ffs_volume.specs.Disk.Areas.{FitsIn}
+use Rattle.ffs_volume.specs.{Disk.Areas.{FitsIn, is_reserved}, Blocks.Claims.is_set, Report.Reads.sweep_reads}
 use Rattle.ffs_image.specs.{Device.{Device, ForContents}, Known.{ForBytes, IsContents}}
 use Rattle.ffs_report.specs.declared.fault.RunFault.{RunFault}
 use Rattle.ffs_walk.specs.{SeenRuns.{indirect_in_run, seen_runs}, Windows.WindowHolds}
@@ -30,6 +30,16 @@ pub record CanReadMap (v : Layout) (d : Device) (window : Window) (f : ℕ) : Ty
 -- the line of a fragment that nothing claims
 abbrev pub map_lines : (v : Layout) (image : List ℕ) (f : ℕ) → List (List ℕ)
 map_lines v image f = map_text v (group_block v image (group_of_fragment v f)) f ∷ []
+
+-- ---- reads
+-- the layout alone says what the fragment f is: it isn't in the volume, or it is reserved
+abbrev pub is_fixed_fragment : Layout → (f : ℕ) → Bool
+is_fixed_fragment v f = nat_le v.size f || is_reserved v f
+
+-- how often an image is read for the fragment f, by a map of the fragments that are used: not where the layout says
+-- what it is; for a used one as often as in a sweep at most; and once for another one, for the block of its group
+abbrev pub owner_reads : Layout → (used : List Bool) → (f : ℕ) → ℕ
+owner_reads v used f = if is_fixed_fragment v f then 0 else (if is_set used f then sweep_reads v else 1)
 
 -- ---- the kept offers of an inode, replayed
 -- the fragment f is one of the first `taken` ones of a Run

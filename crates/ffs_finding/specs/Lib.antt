@@ -9,7 +9,7 @@
 --   find_owner             Finds, where phase 1 was run (WithBlocks of `Claims`); of its parts FindsAllKeepers and
 --                          FindsKeeper (`Keepers`)
 --   find_lost              FindsAny (`Outcome`), where phase 1 was run (WithBlocks of `Claims`); of its parts
---                          FindsWrong (`LostMaps`)
+--                          FindsWrong (`LostMaps`), and where a read fails FailsForLost
 --   find_wrong_fields      FindsAny, where a superblock is accepted (WithSuper of `Fields`)
 --
 -- `Outcome` says what a command leaves of image and output, by its answer. A file for each command follows, but for

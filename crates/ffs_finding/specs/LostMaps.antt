@@ -1,16 +1,17 @@
 -- The map of a group as the program compares it with what is used, and what it prints of it.
-use Rattle.std.specs.Prelude.{◌≡◌, ◌≤◌, ◌<◌, ◌+◌, ◌-◌, ℕ, Bool, not, ◌&&◌, List, [], ◌∷◌, codes, length, Result}
-use Rattle.std.specs.{Prelude.vec_len, List.flat_map, Int.div_ceil}
+use Rattle.std.specs.Prelude.{◌≡◌, ◌⊎◌, ◌≤◌, ◌<◌, ◌+◌, ◌-◌, ◌/◌, ◌++◌, ℕ, Bool, not, ◌&&◌, List, [], ◌∷◌, codes, length}
+use Rattle.std.specs.{Prelude.{vec_len, Result}, List.{flat_map, range_with_len}, Int.div_ceil}
 use Rattle.ffs_image.specs.{Device.Device, Known.IsContents}
 use Rattle.ffs_volume.specs.{declared.Layout.Layout, Groups.Records.{bit_at, group_block, group_numbers}}
-use Rattle.ffs_volume.specs.{Messages.Texts.number_text, Find.Lost.{lost_of_group, wrongly_free_of_group}}
-use Rattle.ffs_volume.specs.Disk.Areas.{FitsIn}
+use Rattle.ffs_volume.specs.{Messages.Texts.number_text, Find.Lost.{lost_lines, lost_of_group, wrongly_free_of_group}}
+use Rattle.ffs_volume.specs.{Disk.Areas.{FitsIn, group_place}, declared.constants.TheConstants.DEV_BSIZE}
+use Rattle.ffs_volume.specs.{Blocks.Owners.owners_of, Groups.GroupCheck.is_free_of_kept}
 use Rattle.ffs_maps.specs.Bits.{bits_of}
 use Rattle.ffs_groups.specs.Free.{free_in}
-use Rattle.ffs_report.specs.declared.fault.RunFault.{RunFault}
+use Rattle.ffs_report.specs.{Fails.FailsIn, Sink.Sink, declared.fault.RunFault.RunFault}
 use Rattle.ffs_walk.specs.{Windows.WindowHolds, declared.window.Window.Window}
 use Rattle.ffs_check.specs.Moment.{Moment}
-use Rattle.ffs_finding.specs.{Outcome.FindsAny, declared.lost.{ComparedMap.ComparedMap, Wrong.Wrong}}
+use Rattle.ffs_finding.specs.{Outcome.{FindsAny, PrintedOf}, declared.lost.{ComparedMap.ComparedMap, Wrong.Wrong}}
 use Rattle.ffs_finding.specs.declared.lost.Wrong.TheVariants.{Lost, MarkedFree}
 
 -- the word before the fragments about which a map is wrong in this way
@@ -68,6 +69,11 @@ abbrev pub lines_of_groups : Wrong → (v : Layout) (free : ℕ → Bool) (image
 lines_of_groups how v free image =
     flat_map (λ c. lines_of_group how v free c (group_block v image c)) (group_numbers v)
 
+-- the lines of the groups from c on
+abbrev pub from_group : Wrong → (v : Layout) (free : ℕ → Bool) (c : ℕ) (image : List ℕ) → List (List ℕ)
+from_group how v free c image =
+    flat_map (λ g. lines_of_group how v free g (group_block v image g)) (range_with_len c (v.ncg - c))
+
 -- a block is that of group c, whose map can be compared with a map of the volume
 pub record CanSayGroup (v : Layout) (mapped c : ℕ) (block : List ℕ) : Type 0 where
   pub group : c < v.ncg
@@ -85,8 +91,41 @@ pub record CanReadGroups (v : Layout) (d : Device) (mapped : ℕ) (w : Window) :
   pub size : mapped ≡ v.size
   pub window : IsBlockWindow v d w
 
+-- a read failed in this sector: it is of the block of a group. Just the lines before those of this group were printed,
+-- and after `begun` reads no more were made than one for each group up to it
+pub record FailsBeforeGroup (knows : List ℕ → Type 0) (v : Layout) (from : (c : ℕ) → List ℕ → List (List ℕ))
+    (all : List ℕ → List (List ℕ)) (begun : ℕ) (old : Sink) (new : Moment) (at : ℕ) : Type 0 where
+  pub group : ℕ
+  pub below : group < v.ncg
+  pub failed : at ≡ group_place v group / DEV_BSIZE
+  pub printed : PrintedOf knows (from group) all old new.out
+  pub reads : new.reads ≤ begun + group + 1
+
 -- where the maps of all groups are wrong in this way was printed, with a read of each group block at most
 pub record FindsWrong (how : Wrong) (v : Layout) (free : ℕ → Bool) (old new : Moment)
     (result : Result Bool RunFault) : Type 0 where
   pub lines : FindsAny (IsContents old.image.contents) (lines_of_groups how v free) old new result
   pub reads : new.reads ≤ old.reads + v.ncg
+  pub failed : FailsIn (FailsBeforeGroup (IsContents old.image.contents) v (from_group how v free)
+      (lines_of_groups how v free) old.reads old.out new) result
+
+-- ---- both passes
+-- the fragments that are free: neither reserved nor claimed by a kept offer
+abbrev pub is_free_in : Layout → (image : List ℕ) → ℕ → Bool
+is_free_in v image = is_free_of_kept v (owners_of v image)
+
+-- the lines from group c on: in the pass over lost fragments its own, with all of the second pass, and in that over
+-- used ones that are marked as free
+abbrev pub lost_from : Layout → (c : ℕ) → (image : List ℕ) → List (List ℕ)
+lost_from v c image =
+    from_group Lost v (is_free_in v image) c image ++ lines_of_groups MarkedFree v (is_free_in v image) image
+
+abbrev pub marked_free_from : Layout → (c : ℕ) → (image : List ℕ) → List (List ℕ)
+marked_free_from v c image = from_group MarkedFree v (is_free_in v image) c image
+
+-- a read failed in this sector: in the first pass, or in the second, after a read of each group in the first
+abbrev pub FailsForLost : (knows : List ℕ → Type 0) → Layout → (begun : ℕ) → (old : Sink) → (new : Moment) → (at : ℕ) →
+    Type 0
+FailsForLost knows v begun old new at =
+    FailsBeforeGroup knows v (lost_from v) (lost_lines v) begun old new at
+    ⊎ FailsBeforeGroup knows v (marked_free_from v) (lost_lines v) (begun + v.ncg) old new at

@@ -2,12 +2,12 @@
 ghost use Rattle.std.specs.Prelude.{◌≡◌, ◌+◌, ◌*◌, ◌≤◌};
 ghost use Rattle.ffs_maps.specs.Bits.{bits_of};
 ghost use Rattle.ffs_groups.specs.Free.{free_in};
-ghost use Rattle.ffs_report.specs.Sink.{Prints};
+ghost use Rattle.ffs_report.specs.{Fails.FailsIn, Sink.Prints};
 ghost use Rattle.ffs_workspace.specs.Ready.{IsReady};
 ghost use Rattle.ffs_check.specs.Moment.{moment};
 ghost use Rattle.ffs_finding.specs.{Claims.WithBlocks, Outcome.{FindsAny, PrintsWhether}, LostMaps.{CanReadGroups, word_of}};
-ghost use Rattle.ffs_finding.specs.LostMaps.{CanSayGroup, FindsWrong, IsBlockWindow, IsComparedMap, IsInMap, IsInMapOrEnd, IsNext};
-ghost use Rattle.ffs_finding.specs.LostMaps.{is_wrong_at, lines_of_group, no_map_lines};
+ghost use Rattle.ffs_finding.specs.LostMaps.{CanSayGroup, FailsForLost, FindsWrong, IsBlockWindow, IsComparedMap};
+ghost use Rattle.ffs_finding.specs.LostMaps.{IsInMap, IsInMapOrEnd, IsNext, is_wrong_at, lines_of_group, no_map_lines};
 ghost use Rattle.ffs_volume.specs.Find.Lost.{lost_lines, range_text, stretch_lines};
 
 use crate::group_map::{fill_group, is_marked_free, map_place};
@@ -193,7 +193,8 @@ fn find_wrong<I: Image, W: Output>(
 ///
 /// The contract gives the lines only for a workspace that holds what phase 1 found of blocks, also
 /// where later phases ran in it. It is left ready, and all of it but its windows as it was: more
-/// can be found in it. Each group's block is read at most twice.
+/// can be found in it. Each group's block is read at most twice; where that can't be read, just the
+/// lines before those of this group were printed.
 ///
 /// # Errors
 /// A read of the image that failed, and a write that failed.
@@ -209,6 +210,9 @@ pub fn find_lost<I: Image, W: Output>(
         (moment I.Image W.Output image.new out.new) result }
     ensures leaves { workspace.new ≡ record workspace.old { windows = workspace.new.windows } }
     ensures reads { I.reads image.new ≤ I.reads image.old + 2 * geometry.now.layout.ncg }
+    ensures before_fault { FailsIn (FailsForLost
+        (WithBlocks geometry.now.layout (I.device image.old) workspace.old) geometry.now.layout
+        (I.reads image.old) (W.sink out.old) (moment I.Image W.Output image.new out.new)) result }
     ensures ready { IsReady geometry.now.layout (I.device image.new) workspace.new }
 {
     workspace.forget_windows();

@@ -11,7 +11,8 @@ ghost use Rattle.ffs_workspace.specs.Ready.{CanRead, IsReady, LeavesAllButWindow
 ghost use Rattle.ffs_check.specs.Moment.{moment};
 ghost use Rattle.ffs_finding.specs.{Claims.WithBlocks, Outcome.Finds, Keepers.{CanFindKeeper, CanPrintMap, CanReadMap}};
 ghost use Rattle.ffs_finding.specs.Keepers.{FindsKeeper, FindsAllKeepers, FindsKeptOffers, is_in_run, map_lines};
-ghost use Rattle.ffs_finding.specs.{Keepers.{run_text, sought_in}, LostMaps.IsBlockWindow};
+ghost use Rattle.ffs_finding.specs.{Keepers.{owner_reads, run_text, sought_in}, LostMaps.IsBlockWindow};
+ghost use Rattle.ffs_maps.specs.Bits.{bits_of};
 
 use crate::group_map::{is_marked_free, map_place};
 use ffs_image::{Image, LimitedImage};
@@ -314,7 +315,9 @@ fn find_keepers<I: Image, W: Output>(
 ///
 /// The contract gives the lines only for a workspace that holds what phase 1 found of blocks, also
 /// where later phases ran in it. It is left ready, and all of it but its windows as it was: more
-/// can be found in it. No more reads are made than those of a sweep over all inodes.
+/// can be found in it. Nothing is read for a fragment that is reserved, or that the volume
+/// doesn't have; just its group's block for one that isn't used; for another one no more than a
+/// sweep over all inodes reads.
 ///
 /// # Errors
 /// A read of the image that failed, and a write that failed.
@@ -331,7 +334,8 @@ pub fn find_owner<I: Image, W: Output>(
         (moment I.Image W.Output image.old out.old) (moment I.Image W.Output image.new out.new)
         result }
     ensures leaves { workspace.new ≡ record workspace.old { windows = workspace.new.windows } }
-    ensures reads { I.reads image.new ≤ I.reads image.old + sweep_reads geometry.now.layout }
+    ensures reads { I.reads image.new ≤ I.reads image.old
+        + owner_reads geometry.now.layout (bits_of workspace.old.used) fragment }
     ensures ready { IsReady geometry.now.layout (I.device image.new) workspace.new }
 {
     if fragment >= geometry.layout.size {

@@ -3,8 +3,8 @@ use Rattle.ffs_volume.proofs.Results.{fails_with}
 use Rattle.ffs_maps.specs.Bits.{bits_of}
 use Rattle.ffs_groups.specs.Free.{free_in}
 use Rattle.ffs_report.proofs.Sinks.{took_nil}
-use Rattle.ffs_finding.proofs.{Printing.{prints_whether, reads_after, stops}, LostGroups.{from_group, groups_begin, groups_end}}
-use Rattle.ffs_finding.proofs.LostGroups.{groups_next}
+use Rattle.ffs_finding.proofs.{Printing.{prints_whether, reads_after, stops}, LostGroups.{groups_begin, groups_end}}
+use Rattle.ffs_finding.{specs.LostMaps.from_group, proofs.LostGroups.groups_next}
 use Rattle.ffs_finding.proofs.lost.find_wrong.Goals as goal
 
 pub loop-group-init : goal.loop-group-init
@@ -31,6 +31,13 @@ returns-in_err-fill_group-clause-prints g c =
     rw (fails_with _ c.from_residual.ensures.1) (record {
       lines = record { found = record { image = fill.read; text = reads_after inv.printed.printed }; any = tt };
       reads = omega (arith, inv.reads, fill.counted, c.loop-group-test.true);
+      failed = record {
+        group = c.loop-group.group;
+        below = c.loop-group-test.true;
+        failed = fill.sector;
+        printed = inv.printed.printed;
+        reads = omega (arith, inv.reads, fill.counted);
+      };
     })
 
 pub returns-in_err-found-clause-prints : goal.returns-in_err-found-clause-prints
@@ -51,6 +58,7 @@ returns-in_err-found-clause-prints g c =
         any = tt;
       };
       reads = omega (arith, inv.reads, fill.counted, c.loop-group-test.true);
+      failed = tt;
     })
 
 pub loop-group-preserved : goal.loop-group-preserved
@@ -89,6 +97,7 @@ returns-clause-prints g c =
         any = inv.printed.any_is;
       };
       reads = omega (arith, inv.reads, c.loop-group.auto.group-end);
+      failed = tt;
     }
 
 pub returns-clause-window : goal.returns-clause-window

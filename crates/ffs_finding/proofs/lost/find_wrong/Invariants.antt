@@ -2,7 +2,7 @@ use Rattle.std.proofs.Common.{◌≡◌, ◌≤◌, ◌+◌}
 use Rattle.ffs_maps.specs.Bits.{bits_of}
 use Rattle.ffs_groups.specs.Free.{free_in}
 use Rattle.ffs_image.specs.Known.{IsContents}
-use Rattle.ffs_finding.{specs.LostMaps.{IsBlockWindow, lines_of_groups}, proofs.{LostGroups.from_group, Printing.PrintedWhether}}
+use Rattle.ffs_finding.{specs.LostMaps.{IsBlockWindow, from_group, lines_of_groups}, proofs.Printing.PrintedWhether}
 use Rattle.ffs_finding.proofs.lost.find_wrong.Given as goal
 
 abbrev pub invariant-loop-group : goal.invariant-loop-group

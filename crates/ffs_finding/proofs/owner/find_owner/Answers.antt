@@ -1,12 +1,13 @@
 use Rattle.std.proofs.Common.{◌≡◌, ◌∙◌, ℕ, ◌<◌, ◌≤◌, Bool, true, false, List, [], ◌∷◌, nat_lt, arith, refl, sym, ap}
+use Rattle.std.specs.Prelude.{nat_le, if◌then◌else◌}
 use Rattle.std.proofs.{Common.rules, lemmas.Bool.Decides.nat_tests}
 use Rattle.ffs_image.specs.{Device.Device, Known.ForBytes}
 use Rattle.ffs_volume.specs.{Blocks.Claims.is_set, Disk.Areas.is_reserved, Laws.Geometry.IsAcceptedLayout}
 use Rattle.ffs_volume.specs.{declared.Layout.Layout, Find.Owner.{keeper_lines, or_lines, lines_of_fragment}}
-use Rattle.ffs_volume.{specs.Find.Owner.reserved_text, proofs.Results.fails_with}
+use Rattle.ffs_volume.{specs.{Find.Owner.reserved_text, Report.Reads.sweep_reads}, proofs.Results.fails_with}
 use Rattle.ffs_maps.specs.Bits.{bits_of}
 use Rattle.ffs_workspace.specs.declared.workspace.Workspace.{Workspace}
-use Rattle.ffs_finding.{specs.{Claims.{HoldsBlocks, WithBlocks}, Keepers.map_lines}, proofs.Claimed.claimed_is}
+use Rattle.ffs_finding.{specs.{Claims.{HoldsBlocks, WithBlocks}, Keepers.{map_lines, owner_reads}}, proofs.Claimed.claimed_is}
 use Rattle.ffs_finding.proofs.{Claimed.has_line, Keepers.same_lines, Leaving.{block_read, size_after}, Printing.knowing}
 use Rattle.ffs_finding.proofs.Printing.{one, one_broken, prints_all, prints_none, stops_all}
 use Rattle.ffs_finding.proofs.owner.find_owner.Goals as goal
@@ -43,6 +44,14 @@ claimed_lines : (v : Layout) (d : Device) (w : Workspace) (f : ℕ) (claimed : B
     is_reserved v f ≡ false → claimed ≡ is_set (bits_of w.used) f →
     ForBytes (WithBlocks v d w) (λ b. claimed ≡ has_line (keeper_lines v b f))
 claimed_lines v d w f claimed g h r e b k = e ∙ (ap (λ bits. is_set bits f) k.1.used ∙ claimed_is v b f g h r)
+
+-- how often the image is read for a fragment that isn't reserved, by what the map of used ones says
+reads_of : (v : Layout) (w w' : Workspace) (f : ℕ) (claimed : Bool) → f < v.size → is_reserved v f ≡ false →
+    w' ≡ record w { windows = w'.windows } → claimed ≡ is_set (bits_of w'.used) f →
+    owner_reads v (bits_of w.used) f ≡ (if claimed then sweep_reads v else 1)
+reads_of v w w' f claimed h r e at =
+    let past : nat_le v.size f ≡ false = grind (arith, nat_tests) in
+    rw (past, r, at ∙ ap (λ (z : Workspace). is_set (bits_of z.used) f) e) refl
 
 pub returns-then-fragment-geometry-clause-prints : goal.returns-then-fragment-geometry-clause-prints
 returns-then-fragment-geometry-clause-prints g c = search (arith, prints_none, no_fragment)
@@ -88,6 +97,20 @@ returns-then-get-clause-prints g c =
           (knowing _ _ (WithBlocks v d c.args.workspace.now) _ _ _ _
           (λ b k. (k.0, owners_held v b c.args.workspace.now _ forgot k.1)) did.text);
     }
+
+pub returns-then-get-clause-reads : goal.returns-then-get-clause-reads
+returns-then-get-clause-reads g c =
+    let free = sym c.reserved.ensures ∙ c.if-reserved.false in
+    let reads = reads_of c.args.geometry.now.layout c.args.workspace.now _ c.args.fragment c.get.result (omega arith)
+    free c.forget_windows.ensures.only c.get.ensures in
+    rw (reads, c.if-get.true) c.find_keepers.ensures.reads
+
+pub returns-clause-reads : goal.returns-clause-reads
+returns-clause-reads g c =
+    let free = sym c.reserved.ensures ∙ c.if-reserved.false in
+    let reads = reads_of c.args.geometry.now.layout c.args.workspace.now _ c.args.fragment c.get.result (omega arith)
+    free c.forget_windows.ensures.only c.get.ensures in
+    rw (reads, c.if-get.false) c.find_unclaimed.ensures.reads
 
 pub returns-clause-prints : goal.returns-clause-prints
 returns-clause-prints g c =
