@@ -75,8 +75,8 @@ AnswersWith are_defects knows lines old new (Err (Refused fault)) = new.out ≡ 
 AnswersWith are_defects knows lines old new (Err (Failed fault)) = Finds {T = Bool} knows lines old new (Err fault)
 AnswersWith are_defects knows lines old new (Err NoMemory) = (new.image ≡ old.image) × (new.out ≡ old.out)
 
--- what is said beside by an answer: of an accepted superblock, of a fault of the superblock, of the sector of a failed
--- read, and of refused memory
+-- what must be so for an answer: at Ok the superblock is accepted; else it has this fault, a read may fail at this
+-- sector, or a request for memory was refused
 abbrev pub GroundsOf : Result Bool FindFault → (accepted : Type 0) → (refused : SuperFault → Type 0)
     → (unread : ℕ → Type 0) → (no_memory : Type 0) → Type 0
 GroundsOf (Ok defect) accepted refused unread no_memory = accepted
