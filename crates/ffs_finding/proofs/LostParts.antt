@@ -18,7 +18,8 @@ use Rattle.ffs_finding.proofs.Printing.{printed_knowing, some_of_part}
 -- where more is known, and more reads were made before
 later : {knows knows' : List ℕ → Type 0} {v : Layout} {from : ℕ → List ℕ → List (List ℕ)} {all : List ℕ → List (List ℕ)}
     {begun begun' : ℕ} {a : Sink} {m : Moment} {at : ℕ} → ForBytes knows' knows → begun ≤ begun' →
-    FailsBeforeGroup knows v from all begun a m at → FailsBeforeGroup knows' v from all begun' a m at
+    FailsBeforeGroup v (λ c. PrintedOf knows (from c) all a m.out) begun m.reads at →
+    FailsBeforeGroup v (λ c. PrintedOf knows' (from c) all a m.out) begun' m.reads at
 later more few p = record {
   group = p.group;
   below = p.below;
@@ -80,7 +81,8 @@ module _ (v : Layout) (d : Device) (w : Workspace) where
 
   -- a read failed in the first list, and in the second
   pub failed_in_first : (begun : ℕ) (a : Sink) (m : Moment) (fault : RunFault) →
-      FailsIn {T = Bool} (FailsBeforeGroup (IsContents d.contents) v (from_group Lost v free) first begun a m)
+      FailsIn {T = Bool} (FailsBeforeGroup v
+      (λ c. PrintedOf (IsContents d.contents) (from_group Lost v free c) first a m.out) begun m.reads)
       (Err fault) → FailsIn {T = Bool} (FailsForLost (WithBlocks v d w) v begun a m) (Err fault)
   failed_in_first begun a m (Out fault) p = tt
   failed_in_first begun a m (Read fault) p = inl (record {
@@ -95,7 +97,8 @@ module _ (v : Layout) (d : Device) (w : Workspace) where
 
   pub failed_in_second : (begun between : ℕ) (a b : Sink) (m : Moment) (x : Bool) (fault : RunFault) →
       between ≤ begun + v.ncg → PrintsLines {T = Bool} (IsContents d.contents) first a b (Ok x) →
-      FailsIn {T = Bool} (FailsBeforeGroup (IsContents d.contents) v (from_group MarkedFree v free) second between b m)
+      FailsIn {T = Bool} (FailsBeforeGroup v
+      (λ c. PrintedOf (IsContents d.contents) (from_group MarkedFree v free c) second b m.out) between m.reads)
       (Err fault) → FailsIn {T = Bool} (FailsForLost (WithBlocks v d w) v begun a m) (Err fault)
   failed_in_second begun between a b m x (Out fault) few p q = tt
   failed_in_second begun between a b m x (Read fault) few p q = inr (record {

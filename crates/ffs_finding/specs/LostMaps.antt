@@ -91,23 +91,22 @@ pub record CanReadGroups (v : Layout) (d : Device) (mapped : ℕ) (w : Window) :
   pub size : mapped ≡ v.size
   pub window : IsBlockWindow v d w
 
--- a read failed in this sector: it is of the block of a group. Just the lines before those of this group were printed,
--- and after `begun` reads no more were made than one for each group up to it
-pub record FailsBeforeGroup (knows : List ℕ → Type 0) (v : Layout) (from : (c : ℕ) → List ℕ → List (List ℕ))
-    (all : List ℕ → List (List ℕ)) (begun : ℕ) (old : Sink) (new : Moment) (at : ℕ) : Type 0 where
+-- a read failed in this sector: it is of the block of a group, before whose lines just so much was printed, and after
+-- `begun` reads no more were made than one for each group up to it
+pub record FailsBeforeGroup (v : Layout) (IsPrintedBefore : (group : ℕ) → Type 0) (begun made at : ℕ) : Type 0 where
   pub group : ℕ
   pub below : group < v.ncg
   pub failed : at ≡ group_place v group / DEV_BSIZE
-  pub printed : PrintedOf knows (from group) all old new.out
-  pub reads : new.reads ≤ begun + group + 1
+  pub printed : IsPrintedBefore group
+  pub reads : made ≤ begun + group + 1
 
 -- where the maps of all groups are wrong in this way was printed, with a read of each group block at most
 pub record FindsWrong (how : Wrong) (v : Layout) (free : ℕ → Bool) (old new : Moment)
     (result : Result Bool RunFault) : Type 0 where
   pub lines : FindsAny (IsContents old.image.contents) (lines_of_groups how v free) old new result
   pub reads : new.reads ≤ old.reads + v.ncg
-  pub failed : FailsIn (FailsBeforeGroup (IsContents old.image.contents) v (from_group how v free)
-      (lines_of_groups how v free) old.reads old.out new) result
+  pub failed : FailsIn (FailsBeforeGroup v (λ c. PrintedOf (IsContents old.image.contents) (from_group how v free c)
+      (lines_of_groups how v free) old.out new.out) old.reads new.reads) result
 
 -- ---- both passes
 -- the fragments that are free: neither reserved nor claimed by a kept offer
@@ -127,5 +126,5 @@ marked_free_from v c image = from_group MarkedFree v (is_free_in v image) c imag
 abbrev pub FailsForLost : (knows : List ℕ → Type 0) → Layout → (begun : ℕ) → (old : Sink) → (new : Moment) → (at : ℕ) →
     Type 0
 FailsForLost knows v begun old new at =
-    FailsBeforeGroup knows v (lost_from v) (lost_lines v) begun old new at
-    ⊎ FailsBeforeGroup knows v (marked_free_from v) (lost_lines v) (begun + v.ncg) old new at
+    FailsBeforeGroup v (λ c. PrintedOf knows (lost_from v c) (lost_lines v) old new.out) begun new.reads at
+    ⊎ FailsBeforeGroup v (λ c. PrintedOf knows (marked_free_from v c) (lost_lines v) old new.out) (begun + v.ncg) new.reads at

@@ -1,6 +1,6 @@
 use Rattle.std.proofs.Common.{◌+◌, ◌-◌, ◌*◌, ◌<◌, [], map, refl, sym, ap, subst, ◌≡◌, ◌∙◌, suc, arith, rules, Err, List}
 use Rattle.std.proofs.Common.{ℕ, ◌≤◌, true}
-use Rattle.ffs_volume.proofs.{Numbered.{as_many, from_next, from_end, count_next as next_long}, Results.fails_with}
+use Rattle.ffs_volume.proofs.{Numbered.{as_many, from_next, from_end, count_next}, Results.fails_with}
 use Rattle.ffs_volume.specs.{Messages.Kinds.{of_tree, lines_from}, Directories.PathnameCheck.directory_lines}
 use Rattle.ffs_volume.specs.{Directories.Volumes.volume_of, Blocks.Inodes.inodes_of}
 use Rattle.ffs_volume.specs.Costs.DirectoryReads.{directory_cost, noted_directories_cost, is_looked_at}
@@ -89,13 +89,13 @@ loop-number-preserved g c =
       reads = λ b k.
           let taken = cost_take (λ s. true) (directory_cost v b) n refl in
           let here = ok.reads b (next g at b k) ((inv.before b k).noted) in
-          let long = next_long (directory_lines (volume_of v b)) n (inodes_of v) (omega arith) in
+          let long = count_next (directory_lines (volume_of v b)) n (inodes_of v) (omega arith) in
           omega (arith, taken, here, long, inv.reads b k);
       checks = λ b k checks. looked_at_next v b c.loop-number.workspace c.check_if_needed.new.workspace
           ok.leaves.survey.findings.block_check (ok.holds b (next g at b k)).1 (inv.checks b k checks);
       looks = λ b k checks.
           let here = ok.reads b (next g at b k) ((inv.before b k).noted) in
-          let long = next_long (directory_lines (volume_of v b)) n (inodes_of v) (omega arith) in
+          let long = count_next (directory_lines (volume_of v b)) n (inodes_of v) (omega arith) in
           let one = look_next v b c.loop-number.workspace n _ _ _ (inv.checks b k checks)
           c.in_ok-check_if_needed.ensures.skipped here in
           omega (arith, one, long, inv.looks b k checks);
@@ -170,13 +170,13 @@ returns-in_err-check_if_needed-clause-tree g c =
           (reports_knowing (Unit {0}) _ _ _ _ _ (Err c.in_err-check_if_needed.field-0.0) (next g at) said.text);
       reads = λ b k.
           let here = said.reads b (next g at b k) ((inv.before b k).noted) in
-          let long = next_long (directory_lines (volume_of v b)) n (inodes_of v) (omega arith) in
+          let long = count_next (directory_lines (volume_of v b)) n (inodes_of v) (omega arith) in
           let taken = cost_take (λ s. true) (directory_cost v b) n refl in
           let rise = costs_rise (λ s. true) (directory_cost v b) (n + 1) (inodes_of v) (omega arith) in
           omega (arith, here, long, taken, rise, inv.reads b k);
       looks = λ b k checks.
           let here = said.reads b (next g at b k) ((inv.before b k).noted) in
-          let long = next_long (directory_lines (volume_of v b)) n (inodes_of v) (omega arith) in
+          let long = count_next (directory_lines (volume_of v b)) n (inodes_of v) (omega arith) in
           let one = look_next v b c.loop-number.workspace n _ _ _ (inv.checks b k checks)
           c.in_err-check_if_needed.ensures.skipped here in
           let rise = costs_rise (is_looked_at v b) (directory_cost v b) (n + 1) (inodes_of v) (omega arith) in
