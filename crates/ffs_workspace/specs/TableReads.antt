@@ -25,7 +25,7 @@ abbrev pub blocks_with_lines : Layout → (lines : ℕ → List TreeMessage) →
 blocks_with_lines v lines = blocks_below v lines (inodes_of v)
 
 -- an image and its table are read no more, and the table is as it was
-pub record StaysUnread (old new : ImageWith Table) : Type 0 where
+pub record IsUnread (old new : ImageWith Table) : Type 0 where
   pub reads : new.reads ≤ old.reads
   pub table : new.cache ≡ old.cache
 
@@ -33,7 +33,7 @@ pub record StaysUnread (old new : ImageWith Table) : Type 0 where
 -- its block, once
 pub record ReadsForLines {T E : Type 0} (v : Layout) (x : ℕ) (lines : List TreeMessage) (old new : ImageWith Table)
     (result : Result T E) : Type 0 where
-  pub none : lines ≡ [] → StaysUnread old new
-  pub again : HoldsInode old.cache x → StaysUnread old new
+  pub none : lines ≡ [] → IsUnread old new
+  pub again : HoldsInode old.cache x → IsUnread old new
   pub once : new.reads ≤ old.reads + 1
   pub block : 0 < length lines → (HoldsInode old.cache x → ⊥) → OnOk result (HoldsPiece v v.inopb x new.cache)
