@@ -5,8 +5,8 @@ use Rattle.std.proofs.{Common.{OnOk, None, Result}, lemmas.Result.on_err_weaker}
 use Rattle.ffs_image.specs.{Device.Device, Known.ForBytes}
 use Rattle.ffs_volume.specs.{Disk.Superblock.Superblock, Directories.Volumes.volume_of, Messages.Kinds.Message}
 use Rattle.ffs_volume.specs.{Messages.Kinds.{of_tree, phase2, phase3, phase4, phase5}, Report.Memory.runs_limit}
-use Rattle.ffs_volume.specs.Directories.{Connectivity.{connectivity_lines, unref_dir_lines}, ReferenceCheck.reference_lines}
-use Rattle.ffs_volume.specs.Directories.{ReferenceCheck.reference_lines_at}
+use Rattle.ffs_volume.specs.Directories.{Connectivity.{connectivity_lines, unref_dir_lines}}
+use Rattle.ffs_volume.specs.Directories.{ReferenceCheck.{reference_lines, reference_lines_at}}
 use Rattle.ffs_volume.specs.{Directories.PathnameCheck.{continues_after_root, pathname_lines}, Report.Reads.group_reads}
 use Rattle.ffs_volume.specs.Report.{Reads.{line_reads, sweep_reads}, Whole.{phase_lines, summary_of, file_count}}
 use Rattle.ffs_volume.specs.Report.Whole.{claimed_count, phase1_messages, phase1b_messages_if_dups, phase2_messages}

@@ -103,7 +103,7 @@ block_divides v g = grind (arith, inodes_whole, mod_self)
 
 -- the numbers of the block of x, in blocks of n: each is in the same table of ipg, and in the same
 -- block of it
-in_block : (x y ipg n : ℕ) → 0 < n → 0 < ipg → ipg % n ≡ 0 → x - x % ipg % n ≤ y → y < x - x % ipg % n + n →
+pub in_block : (x y ipg n : ℕ) → 0 < n → 0 < ipg → ipg % n ≡ 0 → x - x % ipg % n ≤ y → y < x - x % ipg % n + n →
     (y / ipg ≡ x / ipg) × (y % ipg ≡ x % ipg / n * n + (y - (x - x % ipg % n)))
 in_block x y ipg n some filled whole low high =
     let below : x % ipg < ipg = mod-lt x filled in

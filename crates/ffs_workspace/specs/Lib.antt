@@ -1,7 +1,7 @@
 -- What contracts say of a workspace, in the order to read it: each file rests on those before it.
 --
--- Its form: `Tables` is about the window on the inode table, `TableReads` about how often it is read, `Lengths` about the lengths of all lists (IsFor) and what
--- the windows hold.
+-- Its form: `Tables` is about the window on the inode table, `TableReads` about how often it is read for lines,
+-- `Lengths` about the lengths of all lists (IsFor) and what the windows hold.
 --
 -- What it holds: `Holds` has what each phase leaves in it for the next ones: HoldsPhase1, HoldsBlockCheck (phase 1b and
 -- all after it), HoldsSurvey and HoldsReferences (the survey), HoldsFindings (all three, which phase 4 needs of phase

@@ -1,19 +1,23 @@
 -- How often the inode table is read for lines that show an inode: once for each of its blocks that has such an inode.
-use Rattle.std.specs.Prelude.{◌≡◌, ◌+◌, ◌/◌, ◌<◌, ◌≤◌, ◌==◌, ℕ, zero, suc, Bool, ◌&&◌, not, nat_lt, cond, List, [], length}
-use Rattle.std.specs.Prelude.{Result, OnOk}
-use Rattle.ffs_volume.specs.{declared.Layout.Layout, Blocks.Inodes.inodes_of, Disk.Search.some_below, Messages.Kinds.TreeMessage}
+use Rattle.std.specs.Prelude.{◌≡◌, ◌+◌, ◌-◌, ◌%◌, ◌<◌, ◌≤◌, ◌==◌, ℕ, zero, suc, Bool, ◌&&◌, not, nat_lt, cond, List, []}
+use Rattle.std.specs.Prelude.{length, Result, OnOk}
+use Rattle.ffs_volume.specs.{declared.Layout.Layout, Blocks.Inodes.inodes_of, Disk.Search.some_below}
+use Rattle.ffs_volume.specs.Messages.Kinds.{TreeMessage}
 use Rattle.ffs_walk.specs.Windows.{ImageWith}
-use Rattle.ffs_workspace.specs.{declared.table.Table.Table, Tables.{HoldsInode, HoldsPiece}}
+use Rattle.ffs_workspace.specs.{declared.table.Table.Table, Tables.HoldsInode}
+
+-- the first inode of the block of the inode table that has the inode x
+abbrev pub block_start : Layout → (x : ℕ) → ℕ
+block_start v x = x - x % v.ipg % v.inopb
 
 -- something is reported of the inode x
 abbrev pub has_line : (lines : ℕ → List TreeMessage) → (x : ℕ) → Bool
 has_line lines x = nat_lt 0 (length (lines x))
 
--- the inode x has a line, and no lesser one of its block has: each group's table is whole blocks of v.inopb inodes,
--- so two inodes are in one block where x / v.inopb is the same
+-- the inode x has a line, and no lesser one of its block has
 abbrev pub is_first_of_block : Layout → (lines : ℕ → List TreeMessage) → (x : ℕ) → Bool
 is_first_of_block v lines x =
-    has_line lines x && not (some_below (λ y. has_line lines y && (y / v.inopb == x / v.inopb)) x)
+    has_line lines x && not (some_below (λ y. has_line lines y && (block_start v y == block_start v x)) x)
 
 -- how many blocks of the inode table have an inode below n with a line
 unfoldable pub blocks_below : Layout → (lines : ℕ → List TreeMessage) → (n : ℕ) → ℕ
@@ -24,16 +28,21 @@ blocks_below v lines (suc n) = cond (is_first_of_block v lines n) 1 0 + blocks_b
 abbrev pub blocks_with_lines : Layout → (lines : ℕ → List TreeMessage) → ℕ
 blocks_with_lines v lines = blocks_below v lines (inodes_of v)
 
+-- the table holds whole blocks
+abbrev pub HoldsBlocks : Layout → Table → Type 0
+HoldsBlocks v t = (x y : ℕ) → HoldsInode t x → block_start v y ≡ block_start v x → HoldsInode t y
+
 -- an image and its table are read no more, and the table is as it was
-pub record IsUnread (old new : ImageWith Table) : Type 0 where
+pub record StaysUnread (old new : ImageWith Table) : Type 0 where
   pub reads : new.reads ≤ old.reads
   pub table : new.cache ≡ old.cache
 
 -- the inode x, which has these lines, is looked at: nothing is read where it has none or the table holds it, else
--- its block, once
+-- one block, which is held then
 pub record ReadsForLines {T E : Type 0} (v : Layout) (x : ℕ) (lines : List TreeMessage) (old new : ImageWith Table)
     (result : Result T E) : Type 0 where
-  pub none : lines ≡ [] → IsUnread old new
-  pub again : HoldsInode old.cache x → IsUnread old new
+  pub none : lines ≡ [] → StaysUnread old new
+  pub again : HoldsInode old.cache x → StaysUnread old new
   pub once : new.reads ≤ old.reads + 1
-  pub block : 0 < length lines → (HoldsInode old.cache x → ⊥) → OnOk result (HoldsPiece v v.inopb x new.cache)
+  pub block : 0 < length lines → HoldsBlocks v old.cache →
+      OnOk result (HoldsBlocks v new.cache × HoldsInode new.cache x)

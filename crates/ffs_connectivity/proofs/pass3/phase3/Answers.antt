@@ -8,7 +8,7 @@ use Rattle.ffs_report.proofs.Reporting.{heading_part, stops_heading}
 use Rattle.ffs_image.specs.Known.{ForBytes}
 use Rattle.ffs_workspace.specs.{Found.WithSurvey, declared.workspace.Workspace.Workspace}
 use Rattle.ffs_workspace.proofs.{PlaceLaws.filled_noted, Leaving.{claims_left, survey_left, leaves_more, windows_leave}}
-use Rattle.ffs_workspace.proofs.TableReadLaws.{blocks_more, none_read, passed_over, read_counted, read_next}
+use Rattle.ffs_workspace.proofs.TableReadLaws.{none_read, passed_over, read_next, read_within}
 use Rattle.ffs_connectivity.proofs.UnrefLines.{fails_after, lines_begin, lines_from_dir, no_line}
 use Rattle.ffs_connectivity.proofs.pass3.phase3.Goals.{At-loop-number}
 use Rattle.ffs_connectivity.proofs.pass3.phase3.Given as given
@@ -57,8 +57,9 @@ loop-number-init g c =
       leaders = grind arith;
       reads = λ bytes k.
           let unreached = c.first_unreached-first.ensures.before in
-          passed_over v _ 0 c.first_unreached-first.result _ _ _ (omega arith) (λ x _ low. no_line v bytes c.args.workspace.now
-          _ _ kinds reached k.1 k.2 _ (omega arith) unreached x (unreached x low))
+          passed_over v _ 0 c.first_unreached-first.result _ _ _ (omega arith)
+          (λ x _ low. no_line v bytes c.args.workspace.now _ _ kinds reached k.1 k.2 _ (omega arith) unreached x
+          (unreached x low))
           (none_read v _ _ _ _ c.forget_windows.ensures.empty (omega arith));
       said = says_heading
           (λ bytes k. lines_begin v bytes c.args.workspace.now _ _ kinds reached k.1 k.2
@@ -92,7 +93,8 @@ loop-number-preserved g c =
       low = omega arith;
       survey = leaves_more inv.survey (windows_leave _ _ ok.stays.held);
       leaders = grind arith;
-      reads = λ bytes k. read_next v _ n _ _ _ c.args.geometry.now.sound (inv.reads bytes k) tt (ok.reads bytes (more bytes k));
+      reads = λ bytes k. read_next v _ n _ _ _ c.args.geometry.now.sound (inv.reads bytes k) tt
+          (ok.reads bytes (more bytes k));
       said = of_part inv.said
           (λ bytes k. from_next (unref_dir_lines (volume_of v bytes)) n (inodes_of v) (omega arith))
           (said_knows more ok.text);
@@ -111,13 +113,9 @@ returns-then-first-len-clause-paid g c = paid_says _ c.in_ok-say.ensures.said (o
 
 pub returns-in_err-report_unref-clause-reads : goal.returns-in_err-report_unref-clause-reads
 returns-in_err-report_unref-clause-reads g c bytes k =
-    let v = c.args.geometry.now.layout in
-    let n = c.loop-number.number in
-    let more = known g (goal.at.returns-in_err-report_unref-clause-reads g c).At-loop-number in
-    let lines = unref_dir_lines (volume_of v bytes) in
-    let few = read_counted v lines n _ _ _ c.args.geometry.now.sound (c.loop-number.invariant.reads bytes k) _
-    (c.in_err-report_unref.ensures.reads bytes (more bytes k)) in
-    omega (arith, few, blocks_more v lines (n + 1) (inodes_of v) (omega arith))
+    let more = known g (goal.at.returns-in_err-report_unref-clause-reads g c).At-loop-number bytes k in
+    read_within c.args.geometry.now.layout _ _ _ _ _ c.args.geometry.now.sound (c.loop-number.invariant.reads bytes k) _
+    (omega arith) (c.in_err-report_unref.ensures.reads bytes more)
 
 pub returns-in_err-report_unref-clause-paid : goal.returns-in_err-report_unref-clause-paid
 returns-in_err-report_unref-clause-paid g c = grind (arith, err_from_is_err_and, paid_then, paid_fault)

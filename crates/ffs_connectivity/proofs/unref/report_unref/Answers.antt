@@ -2,11 +2,11 @@ use Rattle.std.proofs.{Common.{◌≡◌, ◌∷◌, [], length, map, refl, ◌�
 use Rattle.ffs_volume.specs.Directories.{Connectivity.{is_unref_dir, unref_dir_lines}, Volumes.volume_of}
 use Rattle.ffs_volume.specs.Messages.Kinds.{of_tree, of_reference}
 use Rattle.ffs_volume.specs.declared.tree_lines.ReferenceLine.TheVariants.{UnrefDir}
-use Rattle.ffs_volume.proofs.Results.{fails_with}
+use Rattle.ffs_volume.proofs.Results.{fails_with, on_any}
 use Rattle.ffs_report.proofs.{Paying.{paid_none, paid_reads, paid_stops}, Reporting.{reads_first, says_none, stops_all}}
 use Rattle.ffs_image.specs.Known.{ForBytes}
 use Rattle.ffs_workspace.{specs.Found.WithSurvey, proofs.TablePlaces.{fails_in_block, fails_in_table}}
-use Rattle.ffs_workspace.proofs.TableReadLaws.{fails_line, read_line, unread}
+use Rattle.ffs_workspace.proofs.TableReadLaws.{read_line, unread}
 use Rattle.ffs_connectivity.proofs.{UnrefLaws.unref_held, UnrefLines.{attributes_are, no_lines, one_line, silent}}
 use Rattle.ffs_connectivity.proofs.unref.report_unref.Goals.{After-inode, After-is_unref-unref, After-of}
 use Rattle.ffs_connectivity.proofs.unref.report_unref.Given as given
@@ -52,7 +52,8 @@ returns-in_err-inode-clause-text g c = grind (arith, err_from_is_err_and, reads_
 pub returns-in_err-inode-clause-reads : goal.returns-in_err-inode-clause-reads
 returns-in_err-inode-clause-reads g c bytes k =
     let line = one g (goal.at.returns-in_err-inode-clause-reads g c).After-inode bytes k in
-    rw (fails_with _ c.from_residual.ensures.1) (fails_line _ _ _ _ _ line _ _ c.in_err-inode.ensures.inode)
+    rw (fails_with _ c.from_residual.ensures.1) (read_line _ _ _ _ _ _ _
+    c.args.geometry.now.sound line (λ _ _. tt) c.in_err-inode.ensures.inode)
 
 pub returns-in_err-inode-clause-sector : goal.returns-in_err-inode-clause-sector
 returns-in_err-inode-clause-sector g c = grind (arith, err_from_is_err_and, fails_in_table)
@@ -69,7 +70,7 @@ returns-in_err-say-clause-text g c = grind (arith, stops_all, heard_of, tested)
 pub returns-in_err-say-clause-reads : goal.returns-in_err-say-clause-reads
 returns-in_err-say-clause-reads g c bytes k =
     let line = one g (goal.at.returns-in_err-say-clause-reads g c).After-inode bytes k in
-    read_line _ _ _ _ _ line _ _ c.in_ok-inode.ensures.inode
+    read_line _ _ _ _ _ _ _ c.args.geometry.now.sound line (λ _ h. on_any _ h) c.in_ok-inode.ensures.inode
 
 pub returns-in_err-say-clause-paid : goal.returns-in_err-say-clause-paid
 returns-in_err-say-clause-paid g c = grind (arith, paid_stops)
@@ -80,4 +81,4 @@ returns-clause-text g c = grind (arith, heard_of, tested)
 pub returns-clause-reads : goal.returns-clause-reads
 returns-clause-reads g c bytes k =
     let line = one g (goal.at.returns-clause-reads g c).After-inode bytes k in
-    read_line _ _ _ _ _ line _ _ c.in_ok-inode.ensures.inode
+    read_line _ _ _ _ _ _ _ c.args.geometry.now.sound line (λ _ h. h) c.in_ok-inode.ensures.inode

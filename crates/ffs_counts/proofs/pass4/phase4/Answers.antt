@@ -7,8 +7,9 @@ use Rattle.ffs_report.proofs.Reporting.{of_part, of_same, reports_knowing, said_
 use Rattle.ffs_report.proofs.Reporting.{heading_part, stops_heading}
 use Rattle.ffs_image.specs.Known.{ForBytes}
 use Rattle.ffs_workspace.{specs.Found.WithFindings, proofs.Leaving.findings_held}
-use Rattle.ffs_workspace.proofs.TableReadLaws.{blocks_more, none_read, passed_over, read_counted, read_next}
-use Rattle.ffs_counts.proofs.{Holding.{held_on, lines_after, lines_begin, none_passed, passed_lines}, InodesBelow.fails_before}
+use Rattle.ffs_workspace.proofs.TableReadLaws.{none_read, passed_over, read_next, read_within}
+use Rattle.ffs_counts.proofs.Holding.{held_on, lines_after, lines_begin, none_passed, passed_lines}
+use Rattle.ffs_counts.proofs.InodesBelow.{fails_before}
 use Rattle.ffs_counts.proofs.pass4.phase4.Goals.{After-skipped_from-skipped, At-loop-number}
 use Rattle.ffs_counts.proofs.pass4.phase4.Given as given
 use Rattle.ffs_counts.proofs.pass4.phase4.Goals as goal
@@ -82,7 +83,8 @@ loop-number-preserved-then-skipped-eq0 g c =
       ready = ok.stays.can_read;
       device = ok.faults ∙ inv.device;
       held = held_on c.args.workspace.now c.loop-number.workspace c.report_references.new.workspace inv.held ok.stays.held;
-      reads = λ bytes k. read_next v _ n _ _ _ c.args.geometry.now.sound (inv.reads bytes k) tt (ok.reads bytes (more bytes k));
+      reads = λ bytes k. read_next v _ n _ _ _ c.args.geometry.now.sound (inv.reads bytes k) tt
+          (ok.reads bytes (more bytes k));
       said = of_part inv.said
           (λ bytes k. from_next (reference_lines_at (volume_of v bytes)) n (inodes_of v)
           (omega (arith, c.loop-number-test.true)))
@@ -92,24 +94,18 @@ loop-number-preserved-then-skipped-eq0 g c =
     }
 
 pub loop-number-preserved : goal.loop-number-preserved
-loop-number-preserved g c =
-    let v = c.args.geometry.now.layout in
-    let inv = c.loop-number.invariant in
-    let n = c.loop-number.number in
-    let at = goal.at.loop-number-preserved g c in
-    let n' = n + c.skipped_from-skipped.result in
-    record {
-      within = omega arith;
-      ready = inv.ready;
-      device = inv.device;
-      held = inv.held;
-      reads = λ bytes k. passed_over v (reference_lines_at (volume_of v bytes)) n n' _ _ _ (omega arith)
-          (none_passed v bytes c.loop-number.workspace n c.skipped_from-skipped.result
-          (known g at.At-loop-number bytes k).1 c.skipped_from-skipped.ensures.right (omega arith)) (inv.reads bytes k);
-      said = grind (arith, passed, of_same);
-      heading = inv.heading;
-      paid = inv.paid;
-    }
+loop-number-preserved g c = let inv = c.loop-number.invariant in record {
+  within = omega arith;
+  ready = inv.ready;
+  device = inv.device;
+  held = inv.held;
+  reads = λ bytes k. passed_over _ _ c.loop-number.number _ _ _ _ (omega arith) (none_passed c.args.geometry.now.layout
+      bytes c.loop-number.workspace _ _ (findings_held _ bytes c.args.workspace.now _ inv.held k.1)
+      c.skipped_from-skipped.ensures.right (omega arith)) (inv.reads bytes k);
+  said = grind (arith, passed, of_same);
+  heading = inv.heading;
+  paid = inv.paid;
+}
 
 pub returns-clause-text : goal.returns-clause-text
 returns-clause-text g c = grind (arith, of_same, from_end)
@@ -119,13 +115,9 @@ returns-in_err-say-clause-paid g c = grind (arith, err_from_is_err_and, paid_sto
 
 pub returns-in_err-report_references-clause-reads : goal.returns-in_err-report_references-clause-reads
 returns-in_err-report_references-clause-reads g c bytes k =
-    let v = c.args.geometry.now.layout in
-    let n = c.loop-number.number in
-    let more = known g (goal.at.returns-in_err-report_references-clause-reads g c).At-loop-number in
-    let lines = reference_lines_at (volume_of v bytes) in
-    let few = read_counted v lines n _ _ _ c.args.geometry.now.sound (c.loop-number.invariant.reads bytes k) _
-    (c.in_err-report_references.ensures.reads bytes (more bytes k)) in
-    omega (arith, few, blocks_more v lines (n + 1) (inodes_of v) (omega arith))
+    let more = known g (goal.at.returns-in_err-report_references-clause-reads g c).At-loop-number bytes k in
+    read_within c.args.geometry.now.layout _ _ _ _ _ c.args.geometry.now.sound (c.loop-number.invariant.reads bytes k) _
+    (omega arith) (c.in_err-report_references.ensures.reads bytes more)
 
 pub returns-in_err-report_references-clause-paid : goal.returns-in_err-report_references-clause-paid
 returns-in_err-report_references-clause-paid g c = grind (arith, err_from_is_err_and, paid_then, paid_fault)

@@ -6,7 +6,7 @@ use Rattle.ffs_report.proofs.Paying.{paid_none, paid_reads, paid_says, paid_stop
 use Rattle.ffs_image.specs.Known.{ForBytes}
 use Rattle.ffs_report.proofs.Reporting.{reads_first, says_all, says_none, stops_all}
 use Rattle.ffs_workspace.{specs.{Found.WithFindings, Ready.LeavesAllButWindows}, proofs.{Readiness.can_read_table, TablePlaces.{fails_in_block, fails_in_table}}}
-use Rattle.ffs_workspace.proofs.TableReadLaws.{fails_line, read_line, unread}
+use Rattle.ffs_workspace.proofs.TableReadLaws.{read_line, unread}
 use Rattle.ffs_counts.{specs.References.lines_as, proofs.Holding.{inode_reference_lines_are, item_at, met_lines}}
 use Rattle.ffs_counts.proofs.Holding.{some_lines, unmet_line, unmet_reported}
 use Rattle.ffs_counts.proofs.pass4.report_references.Goals.{After-inode}
@@ -60,8 +60,9 @@ pub returns-in_err-inode : goal.returns-in_err-inode
 returns-in_err-inode g c = record {
   faults = grind (arith, err_from_is_err_and);
   text = grind (arith, err_from_is_err_and, reads_first);
-  reads = λ bytes k. rw (fails_with _ c.from_residual.ensures.1) (fails_line _ _ _ _ _
-      (one g (goal.at.returns-in_err-inode g c).After-inode bytes k) _ _ c.in_err-inode.ensures.inode);
+  reads = λ bytes k. rw (fails_with _ c.from_residual.ensures.1) (read_line _ _ _ _ _ _ _
+      c.args.geometry.now.sound (one g (goal.at.returns-in_err-inode g c).After-inode bytes k) (λ _ _. tt)
+      c.in_err-inode.ensures.inode);
   paid = grind (arith, err_from_is_err_and, paid_reads);
   sector = grind (arith, err_from_is_err_and, fails_in_table);
   before_fault = grind (arith, err_from_is_err_and, fails_in_block);
@@ -74,7 +75,8 @@ returns-in_err-say_if_any g c =
     rw (fails_with _ c.from_residual-in_err-say_if_any.ensures.1) (record {
       faults = search rules;
       text = stops_all (lines_are g at.After-line_for-line) c.in_err-say_if_any.ensures;
-      reads = λ bytes k. read_line _ _ _ _ _ (one g at.After-inode bytes k) _ _ c.in_ok-inode.ensures.inode;
+      reads = λ bytes k. read_line _ _ _ _ _ _ _ c.args.geometry.now.sound (one g at.After-inode bytes k)
+          (λ _ _. tt) c.in_ok-inode.ensures.inode;
       sector = tt;
       before_fault = tt;
       paid = paid_stops _ c.in_err-say_if_any.ensures (some g at.After-line_for-line) c.in_ok-inode.ensures.inode.counted;
@@ -87,7 +89,8 @@ returns g c =
     record {
       faults = search rules;
       text = says_all (lines_are g at.After-line_for-line) c.in_ok-say_if_any.ensures;
-      reads = λ bytes k. read_line _ _ _ _ _ (one g at.After-inode bytes k) _ _ c.in_ok-inode.ensures.inode;
+      reads = λ bytes k. read_line _ _ _ _ _ _ _ c.args.geometry.now.sound (one g at.After-inode bytes k)
+          (λ _ h. h) c.in_ok-inode.ensures.inode;
       sector = tt;
       before_fault = tt;
       paid = paid_says _ c.in_ok-say_if_any.ensures (some g at.After-line_for-line) c.in_ok-inode.ensures.inode.counted;
