@@ -11,7 +11,7 @@ use Rattle.ffs_volume.proofs.{Results.on_any, SearchLaws.some_below-gives}
 use Rattle.ffs_image.specs.declared.image.ImageFault.{ImageFault}
 use Rattle.ffs_walk.specs.Windows.{ImageWith}
 use Rattle.ffs_workspace.specs.{declared.table.Table.Table, Tables.{HoldsInode, HoldsPiece, ReadsInodeOnce, TakesPiece}}
-use Rattle.ffs_workspace.specs.TableReads.{HoldsBlocks, ReadsForLines, block_start, blocks_below, blocks_with_lines}
+use Rattle.ffs_workspace.specs.TableReads.{HoldsWholeBlocks, ReadsForLines, block_start, blocks_below, blocks_with_lines}
 use Rattle.ffs_workspace.{specs.TableReads.{has_line, is_first_of_block}, proofs.TablePlaces.{block_divides, in_block}}
 
 -- the inodes from the first one of a block on are of the block
@@ -31,7 +31,7 @@ piece_has v x y t g h same = let some = (block_divides v g).some in
     (omega (arith, h.first), omega (arith, h.first, h.count))
 
 piece_whole : (v : Layout) (x : ℕ) (t : Table) → IsAcceptedLayout v → HoldsPiece v v.inopb x t →
-    HoldsBlocks v t × HoldsInode t x
+    HoldsWholeBlocks v t × HoldsInode t x
 piece_whole v x t g h = (
   λ y z has same. piece_has v x z t g h
       (same ∙ same_start v x y g (omega (arith, has.0, h.first)) (omega (arith, has.1, h.first, h.count))),
@@ -77,7 +77,7 @@ reference_few v b = blocks_few v (reference_lines_at (volume_of v b)) (inodes_of
 pub record HaveBeenRead (v : Layout) (lines : ℕ → List TreeMessage) (n start reads : ℕ) (t : Table) : Type 0 where
   pub counted : reads ≤ start + blocks_below v lines n
   pub held : (x y : ℕ) → x < n → has_line lines x ≡ true → n ≤ y → block_start v y ≡ block_start v x → HoldsInode t y
-  pub whole : HoldsBlocks v t
+  pub whole : HoldsWholeBlocks v t
 
 -- before the first inode an empty table is so
 pub none_read : (v : Layout) (lines : ℕ → List TreeMessage) (start reads : ℕ) (t : Table) → t.count ≡ 0 →
@@ -178,5 +178,5 @@ read_line v x lines old new i r g one after h = record {
   ];
 }
   where
-    missed : (HoldsInode old.cache x → ⊥) → OnOk r (HoldsBlocks v new.cache × HoldsInode new.cache x)
+    missed : (HoldsInode old.cache x → ⊥) → OnOk r (HoldsWholeBlocks v new.cache × HoldsInode new.cache x)
     missed out = on_ok_weaker r (piece_whole v x new.cache g) (after _ (h.piece.1 out))

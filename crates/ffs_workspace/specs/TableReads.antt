@@ -29,8 +29,8 @@ abbrev pub blocks_with_lines : Layout → (lines : ℕ → List TreeMessage) →
 blocks_with_lines v lines = blocks_below v lines (inodes_of v)
 
 -- the table holds whole blocks
-abbrev pub HoldsBlocks : Layout → Table → Type 0
-HoldsBlocks v t = (x y : ℕ) → HoldsInode t x → block_start v y ≡ block_start v x → HoldsInode t y
+abbrev pub HoldsWholeBlocks : Layout → Table → Type 0
+HoldsWholeBlocks v t = (x y : ℕ) → HoldsInode t x → block_start v y ≡ block_start v x → HoldsInode t y
 
 -- an image and its table are read no more, and the table is as it was
 pub record StaysUnread (old new : ImageWith Table) : Type 0 where
@@ -44,5 +44,5 @@ pub record ReadsForLines {T E : Type 0} (v : Layout) (x : ℕ) (lines : List Tre
   pub none : lines ≡ [] → StaysUnread old new
   pub again : HoldsInode old.cache x → StaysUnread old new
   pub once : new.reads ≤ old.reads + 1
-  pub block : 0 < length lines → HoldsBlocks v old.cache →
-      OnOk result (HoldsBlocks v new.cache × HoldsInode new.cache x)
+  pub block : 0 < length lines → HoldsWholeBlocks v old.cache →
+      OnOk result (HoldsWholeBlocks v new.cache × HoldsInode new.cache x)
