@@ -17,9 +17,9 @@ use Rattle.ffs_finding.proofs.Printing.{printed_knowing, some_of_part}
 
 -- where more is known, and more reads were made before
 later : {knows knows' : List ℕ → Type 0} {v : Layout} {from : ℕ → List ℕ → List (List ℕ)} {all : List ℕ → List (List ℕ)}
-    {begun begun' : ℕ} {a : Sink} {m : Moment} {at : ℕ} → ForBytes knows' knows → begun ≤ begun' →
-    FailsBeforeGroup v (λ c. PrintedOf knows (from c) all a m.out) begun m.reads at →
-    FailsBeforeGroup v (λ c. PrintedOf knows' (from c) all a m.out) begun' m.reads at
+    {begun begun' made at : ℕ} {a b : Sink} → ForBytes knows' knows → begun ≤ begun' →
+    FailsBeforeGroup v (λ c. PrintedOf knows (from c) all a b) begun made at →
+    FailsBeforeGroup v (λ c. PrintedOf knows' (from c) all a b) begun' made at
 later more few p = record {
   group = p.group;
   below = p.below;

@@ -4,6 +4,7 @@ use Rattle.ffs_image.specs.Device.{Device}
 use Rattle.ffs_workspace.specs.declared.workspace.Workspace.{Workspace}
 use Rattle.ffs_finding.proofs.{Leaving.{block_read, size_after}, LostParts.{fault_in_first, fault_in_second, printed_both}}
 use Rattle.ffs_finding.proofs.LostParts.{failed_in_first, failed_in_second}
+use Rattle.ffs_check.specs.Moment.{moment}
 use Rattle.ffs_finding.proofs.lost.find_lost.Goals as goal
 
 pub find_wrong-requires : goal.find_wrong-requires
@@ -39,7 +40,8 @@ returns-in_err-lost-clause-before_fault g c =
     let used = ap (λ (w : Workspace). w.used) c.forget_windows.ensures.only in
     let did = rw used at c.in_err-lost.ensures.prints in
     rw (p.1, p.2) (failed_in_first c.args.geometry.now.layout (g.I.Image.device c.args.image.now) c.args.workspace.now
-    (g.I.Image.reads c.args.image.now) (g.W.Output.sink c.args.out.now) _ c.in_err-lost.field-0.0 did.failed)
+    (g.I.Image.reads c.args.image.now) (g.W.Output.sink c.args.out.now)
+    (moment g.I.Image g.W.Output c.find_wrong.new.image c.find_wrong.new.out) c.in_err-lost.field-0.0 did.failed)
 
 pub returns-in_err-free-clause-before_fault : goal.returns-in_err-free-clause-before_fault
 returns-in_err-free-clause-before_fault g c =
@@ -48,7 +50,8 @@ returns-in_err-free-clause-before_fault g c =
     let one = rw used at c.in_ok-lost.ensures.prints in
     let two = rw (one.lines.found.image, used) at c.in_err-free.ensures.prints in
     rw (p.1, p.2) (failed_in_second c.args.geometry.now.layout (g.I.Image.device c.args.image.now) c.args.workspace.now
-    (g.I.Image.reads c.args.image.now) _ (g.W.Output.sink c.args.out.now) _ _ c.in_ok-lost.lost c.in_err-free.field-0.0
+    (g.I.Image.reads c.args.image.now) _ (g.W.Output.sink c.args.out.now) _
+    (moment g.I.Image g.W.Output c.find_wrong-2.new.image c.find_wrong-2.new.out) c.in_ok-lost.lost c.in_err-free.field-0.0
     one.reads one.lines.found.text two.failed)
 
 pub returns-clause-prints : goal.returns-clause-prints
