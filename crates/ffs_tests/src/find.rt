@@ -24,7 +24,12 @@ fn found(
     let mut image = volume(order, &[number], alloc)?;
     let mut memory = FuseMemory::nth(SystemMemory::new(alloc), k);
     let mut text = Vec::new(alloc);
-    let status = find_in(&mut memory, &mut image, command, &mut Counted::new(&mut text));
+    let status = find_in(
+        &mut memory,
+        &mut image,
+        command,
+        &mut Counted::new(&mut text),
+    );
     Ok((status, text))
 }
 
@@ -57,12 +62,7 @@ static FOUND: [(Number, Target, u8, &[u8]); 5] = [
     ),
     (AS_IT_IS, Target::Owner { fragment: 37 }, 0, b"free\n"),
     (AS_IT_IS, Target::Lost, 0, b""),
-    (
-        (24752, 1, 0x0e),
-        Target::Lost,
-        1,
-        b"lost 37 to 39\n",
-    ),
+    ((24752, 1, 0x0e), Target::Lost, 1, b"lost 37 to 39\n"),
 ];
 
 #[test]
@@ -80,7 +80,13 @@ fn targets_of_a_volume(rt: HostRuntime) -> Result<(), Fail> {
 
 #[test]
 fn copies_of_a_superblock(rt: HostRuntime) -> Result<(), Fail> {
-    let (ended, printed) = found(Order::Little, AS_IT_IS, Command::Copies, NONE_REFUSED, rt.alloc())?;
+    let (ended, printed) = found(
+        Order::Little,
+        AS_IT_IS,
+        Command::Copies,
+        NONE_REFUSED,
+        rt.alloc(),
+    )?;
     let copies: &[u8] = b"16 little 4096/1024 128 primary\n32 little 4096/1024 128 group 0\n";
     same(&rt, &printed.as_slice(), &copies);
     same(&rt, &ended, &0);
