@@ -1,6 +1,7 @@
 //! Tests of the public calls of the crates of phases, of those that read directories and make
-//! paths, and of the whole check: its end, its reads, its memory. They are here so that no crate is
-//! proved twice for them, and so that the program uses no crate but the check.
+//! paths, of the whole check: its end, its reads, its memory, and of what `ffs_find` finds. They are
+//! here so that no crate is proved twice for them, and so that the program uses no crate but the
+//! check.
 #![tactic(auto)]
 
 #[cfg(test)]
@@ -17,6 +18,8 @@ mod connectivity;
 mod counts;
 #[cfg(test)]
 mod files;
+#[cfg(test)]
+mod find;
 #[cfg(test)]
 mod image;
 #[cfg(test)]
